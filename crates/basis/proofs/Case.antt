@@ -1,0 +1,37 @@
+-- Laws of definitions that go by tests: a case is chosen by what the test is.
+-- Assumes nothing.
+use mathlib.Core.Path.{_≡_, refl, ap, _∙_, sym}
+use mathlib.Core.Bool.{Bool, true, false, cond, _&&_}
+use Prim.Native.Nat.{ℕ}
+use lib.Dec.{eqb}
+use borrow.Author.Tests.{eqb-true, eqb-false, eq-eqb, ne-eqb}
+
+pub then : {X : Type 0} (t : Bool) (x y : X) → t ≡ true → cond t x y ≡ x
+then t x y e = ap (λ (b : Bool). cond b x y) e
+
+pub else : {X : Type 0} (t : Bool) (x y : X) → t ≡ false → cond t x y ≡ y
+else t x y e = ap (λ (b : Bool). cond b x y) e
+
+pub both : {a b : Bool} → a ≡ true → b ≡ true → (a && b) ≡ true
+both {a} {b} p q = ap (λ (t : Bool). t && b) p ∙ q
+
+pub first-fails : {a : Bool} (b : Bool) → a ≡ false → (a && b) ≡ false
+first-fails b p = ap (λ (t : Bool). t && b) p
+
+and-false : (a : Bool) → (a && false) ≡ false
+and-false true = refl
+and-false false = refl
+
+pub second-fails : (a : Bool) {b : Bool} → b ≡ false → (a && b) ≡ false
+second-fails a p = ap (λ (t : Bool). a && t) p ∙ and-false a
+
+pub both-false : {a b : Bool} → a ≡ true → b ≡ false → (a && b) ≡ false
+both-false {a} {b} p q = ap (λ (t : Bool). t && b) p ∙ q
+
+-- two tests of equality agree where each equation follows from the other
+pub eqb-same : (a b c d : ℕ) → (a ≡ b → c ≡ d) → (c ≡ d → a ≡ b) → eqb a b ≡ eqb c d
+eqb-same a b c d f g = by (eqb a b) refl
+  where
+    by : (t : Bool) → eqb a b ≡ t → eqb a b ≡ eqb c d
+    by true e = e ∙ sym (eq-eqb c d (f (eqb-true a b e)))
+    by false e = e ∙ sym (ne-eqb c d (λ q. eqb-false a b e (g q)))

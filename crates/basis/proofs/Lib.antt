@@ -1,0 +1,9 @@
+pub mod Bits
+pub mod Bounds
+pub mod Case
+pub mod Lists
+pub mod Parts
+pub mod Signed
+pub mod Slices
+pub mod Sums
+pub mod Table

@@ -1,0 +1,68 @@
+-- A signed local holds bits, so each test and cast of it speaks of what the machine reads back from them, `toZ w (ofZ w z)`.
+-- These laws take such a fact to the number's two parts, which `omega` reads. A literal's bits are `ofZ w` of it by computation.
+-- Assumes nothing.
+use Prim.Native.Nat.{ℕ, _+_, _<_, _≤_}
+use native.Mathlib.Omega.{arith}
+use mathlib.Core.Bool.{Bool, true, false}
+use mathlib.Core.Path.{_≡_, sym, ap, ap₂, _∙_, subst}
+use lib.Dec.{T}
+use lib.IntN.{ℤ, natAbs, _+ℤ_}
+use lib.Signed.{ltZ, leZ, nonNeg}
+use mir.Syntax.{Width}
+use mir.Val.{SFits, Fits, toZ, ofZ, bits, hbits}
+use mir.ValLaws.{toZ-ofZ}
+use mir.Facts.{fits-natAbs}
+use lib.Signed.{mag}
+use mir.Syntax.{w32}
+use Prim.Native.Nat.{_^_}
+use lib.Dec.{ltb}
+use Rattle.basis.specs.Parts.{above, below}
+use Rattle.basis.proofs.Parts.{lt-parts, le-parts, parts-lt, parts-le, below-nonNeg, natAbs-above}
+
+yes : {t : Bool} → t ≡ true → T t
+yes e = subst T (sym e) tt
+
+true-false : (t : Bool) → t ≡ false → T t → ⊥
+true-false t e h = subst T e h
+
+pub lt-true : (x y : ℤ) → ltZ x y ≡ true → above x + below y < above y + below x
+lt-true x y e = lt-parts x y (yes e)
+
+pub le-true : (x y : ℤ) → leZ x y ≡ true → above x + below y ≤ above y + below x
+le-true x y e = le-parts x y (yes e)
+
+not-lt : (a b : ℕ) → (a < b → ⊥) → b ≤ a
+not-lt a b h = omega (arith, h)
+
+not-le : (a b : ℕ) → (a ≤ b → ⊥) → b < a
+not-le a b h = omega (arith, h)
+
+pub lt-false : (x y : ℤ) → ltZ x y ≡ false → above y + below x ≤ above x + below y
+lt-false x y e = not-lt (above x + below y) (above y + below x) (λ h. true-false (ltZ x y) e (parts-lt x y h))
+
+pub le-false : (x y : ℤ) → leZ x y ≡ false → above y + below x < above x + below y
+le-false x y e = not-le (above x + below y) (above y + below x) (λ h. true-false (leZ x y) e (parts-le x y h))
+
+module _ (w : Width) (x y : ℤ) (fx : SFits w x) (fy : SFits w y) where
+  -- the test  x < y  of two signed locals
+  pub lt-read : ltZ (toZ w (ofZ w x)) (toZ w (ofZ w y)) ≡ ltZ x y
+  lt-read = ap₂ ltZ (toZ-ofZ w x fx) (toZ-ofZ w y fy)
+
+  pub le-read : leZ (toZ w (ofZ w x)) (toZ w (ofZ w y)) ≡ leZ x y
+  le-read = ap₂ leZ (toZ-ofZ w x fx) (toZ-ofZ w y fy)
+
+  pub add-read : SFits w (x +ℤ y) → SFits w (toZ w (ofZ w x) +ℤ toZ w (ofZ w y))
+  add-read f = subst (SFits w) (sym (ap₂ _+ℤ_ (toZ-ofZ w x fx) (toZ-ofZ w y fy))) f
+
+-- a cast of a signed local to an unsigned type of more bits than the number's own less one
+pub cast-read : (w w′ : Width) (z : ℤ) → T (ltb (hbits w) (bits w′)) → SFits w z → below z ≡ 0
+    → T (nonNeg (toZ w (ofZ w z))) × Fits w′ (natAbs (toZ w (ofZ w z)))
+cast-read w w′ z t f e =
+    subst (λ (v : ℤ). T (nonNeg v) × Fits w′ (natAbs v)) (sym (toZ-ofZ w z f)) (below-nonNeg z e, fits-natAbs t f)
+
+pub cast-value : (w : Width) (z : ℤ) → SFits w z → below z ≡ 0 → natAbs (toZ w (ofZ w z)) ≡ above z
+cast-value w z f e = ap natAbs (toZ-ofZ w z f) ∙ natAbs-above z e
+
+-- a signed field of a struct, whose range a proof is given as a bound on its size
+pub of-bits : (z : ℤ) → mag z < 2 ^ 31 → toZ w32 (ofZ w32 z) ≡ z
+of-bits z h = toZ-ofZ w32 z (record { sfits = h })

@@ -1,0 +1,3 @@
+pub mod Inside
+pub mod Ready
+pub mod Rows

@@ -1,0 +1,4 @@
+pub mod Plane
+pub mod Reference
+pub mod Source
+pub mod Held

@@ -1,0 +1,64 @@
+-- The source picture: its refusals, and a macroblock's blocks, past the right or bottom the last column or row repeated.
+use Prim.Native.Nat.{ℕ, _+_, _*_, _/_}
+use mathlib.Core.Bool.{Bool, _&&_}
+use mathlib.Core.List.{List}
+use lib.Dec.{leb, ltb}
+use lib.IntN.{pos}
+use Rattle.basis.specs.Lists.{raster}
+use Rattle.refusal.specs.declared.Refusal.the-variants.{SourceSide, SourcePlane, Place}
+use Rattle.refusal.specs.declared.Reply.{Reply}
+use Rattle.refusal.specs.declared.Reply.the-variants.{Done}
+use Rattle.refusal.specs.Reply.{unless, andThen}
+use Rattle.refusal.specs.Test.{between}
+use Rattle.plane.specs.declared.SourceSize.{SourceSize}
+use Rattle.plane.specs.declared.MacroblockPlace.{MacroblockPlace}
+use Rattle.plane.specs.Plane.{Plane, copied}
+use Rattle.plane.specs.Reference.{lengthReply}
+
+-- a chroma side is half the luma side, rounded up
+abbrev pub halved : ℕ → ℕ
+halved n = (n + 1) / 2
+
+abbrev pub chromaSize : SourceSize → SourceSize
+chromaSize s = record { width = halved (s .width); height = halved (s .height) }
+
+-- a plane whose rows follow each other directly
+abbrev pub packed : List ℕ → SourceSize → Plane
+packed samples s = record { samples = samples; width = s .width; height = s .height; stride = s .width }
+
+-- 6: a side not 1..4,096
+unfoldable pub sideReply : SourceSize → Reply
+sideReply s = unless (between 1 4096 (s .width) && between 1 4096 (s .height)) SourceSide Done
+
+-- whether a plane of n samples is at least as long as its width times its height
+abbrev pub holds : SourceSize → ℕ → Bool
+holds s n = leb (s .width * s .height) n
+
+-- 8: a column or row at or above the source's side over 16, rounded up
+unfoldable pub placeReply : SourceSize → MacroblockPlace → Reply
+placeReply s at = unless (ltb (at .column) ((s .width + 15) / 16) && ltb (at .row) ((s .height + 15) / 16)) Place Done
+
+-- 6, 7, 8 where luma alone is handed in, where one chroma plane is, and where all three are
+unfoldable pub lumaReply : SourceSize → ℕ → MacroblockPlace → Reply
+lumaReply s y at = andThen (sideReply s) (unless (holds s y) SourcePlane (placeReply s at))
+
+unfoldable pub chromaReply : SourceSize → ℕ → MacroblockPlace → Reply
+chromaReply s c at = andThen (sideReply s) (unless (holds (chromaSize s) c) SourcePlane (placeReply s at))
+
+unfoldable pub sourceReply : SourceSize → ℕ → ℕ → ℕ → MacroblockPlace → Reply
+sourceReply s y cb cr at =
+    andThen (sideReply s) (unless (holds s y && (holds (chromaSize s) cb && holds (chromaSize s) cr)) SourcePlane (placeReply s at))
+
+-- the 16 x 16 luma block and an 8 x 8 chroma block of a macroblock
+abbrev pub lumaBlock : List ℕ → SourceSize → MacroblockPlace → List ℕ
+lumaBlock y s at = raster 16 16 (copied (packed y s) (pos (16 * at .column)) (pos (16 * at .row)))
+
+abbrev pub chromaBlock : List ℕ → SourceSize → MacroblockPlace → List ℕ
+chromaBlock c s at = raster 8 8 (copied (packed c (chromaSize s)) (pos (8 * at .column)) (pos (8 * at .row)))
+
+-- 6, 7, 8, 12
+abbrev pub lumaBlockReply : SourceSize → ℕ → MacroblockPlace → ℕ → Reply
+lumaBlockReply s y at area = andThen (lumaReply s y at) (lengthReply area 16 16)
+
+abbrev pub chromaBlockReply : SourceSize → ℕ → MacroblockPlace → ℕ → Reply
+chromaBlockReply s c at area = andThen (chromaReply s c at) (lengthReply area 8 8)

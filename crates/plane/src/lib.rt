@@ -1,0 +1,206 @@
+// Planes of samples. A reference is read with both coordinates clamped into it (7.6.4), sample by sample or as a copied block;
+// `source` has the blocks of the picture that is coded.
+ghost use mathlib.Core.Path.{_≡_};
+ghost use Prim.Native.Nat.{_-_, min};
+ghost use lib.IntN.{pos, _+ℤ_};
+ghost use lib.ListN.{length};
+ghost use Rattle.refusal.specs.Reply.{done};
+ghost use Rattle.plane.specs.Plane.{planeOf, clampTo, copiedBlock};
+ghost use Rattle.plane.specs.Reference.{originInRange, vectorInRange, isSide, referenceReply, motionReply, lengthReply, sideReply, blockReply, copyReply, fetched};
+use record::MotionVector;
+use refusal::Refusal;
+use refusal::Reply;
+
+mod copy;
+pub mod source;
+
+// A plane has `height` rows of `stride` samples, of which the first `width` of each are the picture's.
+pub struct Geometry {
+    pub width: usize,
+    pub height: usize,
+    pub stride: usize,
+}
+
+// Whole samples from a plane's first.
+pub struct Point {
+    pub x: i32,
+    pub y: i32,
+}
+
+// The picture that is coded, in luma samples.
+pub struct SourceSize {
+    pub width: usize,
+    pub height: usize,
+}
+
+// In macroblocks.
+pub struct MacroblockPlace {
+    pub column: usize,
+    pub row: usize,
+}
+
+// A sample, or why there is none.
+pub enum Fetched {
+    Sample(u8),
+    Refused(Refusal),
+}
+
+fn nearest(at: usize, size: usize) -> usize
+    ensures { λ r. ⌜ r ≡ min at (size - 1) ⌝ }
+{
+    if at < size {
+        return at;
+    }
+    if size == 0 {
+        return 0;
+    }
+    size - 1
+}
+
+// The place in 0..size that is nearest to x + i, and 0 where there is none.
+pub fn clamp_coordinate(x: i32, i: usize, size: usize) -> usize
+    ensures { λ r. ⌜ r ≡ clampTo size (x +ℤ pos i) ⌝ }
+{
+    if x < 0 {
+        let down = (-1 - x) as usize;
+        if i <= down {
+            return 0;
+        }
+        return nearest(i - down - 1, size);
+    }
+    if size <= i {
+        return nearest(i, size);
+    }
+    let up = x as usize;
+    if size - i <= up {
+        return size - 1;
+    }
+    up + i
+}
+
+// 4, 5
+pub fn reference_reply(geometry: Geometry, bytes: usize) -> Reply
+    ensures { λ r. ⌜ r ≡ referenceReply geometry bytes ⌝ }
+{
+    let w = geometry.width;
+    let h = geometry.height;
+    let t = geometry.stride;
+    if !refusal::both(
+        refusal::between(1, 4096, w),
+        refusal::both(refusal::between(1, 4096, h), refusal::between(w, 8192, t)),
+    ) {
+        return Reply::Refused(Refusal::ReferenceSize);
+    }
+    refusal::unless(
+        (h - 1) * t + (w - 1) < bytes,
+        Refusal::ReferenceBytes,
+        Reply::Done,
+    )
+}
+
+fn origin_in_range(origin: Point) -> bool
+    ensures { λ r. ⌜ r ≡ originInRange origin ⌝ }
+{
+    refusal::both(
+        refusal::in_range(-4096, 4096, origin.x),
+        refusal::in_range(-4096, 4096, origin.y),
+    )
+}
+
+fn vector_in_range(vector: MotionVector) -> bool
+    ensures { λ r. ⌜ r ≡ vectorInRange vector ⌝ }
+{
+    refusal::both(
+        refusal::in_range(-2048, 2047, vector.x),
+        refusal::in_range(-2048, 2047, vector.y),
+    )
+}
+
+// 8, for interpolation
+pub fn motion_reply(vector: MotionVector, origin: Point) -> Reply
+    ensures { λ r. ⌜ r ≡ motionReply vector origin ⌝ }
+{
+    let moved = refusal::both(origin_in_range(origin), vector_in_range(vector));
+    refusal::unless(moved, Refusal::Place, Reply::Done)
+}
+
+// 12: an area that is not w times h long
+pub fn length_reply(area: usize, w: usize, h: usize) -> Reply
+    ensures { λ r. ⌜ r ≡ lengthReply area w h ⌝ }
+{
+    refusal::unless(
+        refusal::is_product(area, w, h),
+        Refusal::Length,
+        Reply::Done,
+    )
+}
+
+fn is_side(n: usize) -> bool
+    ensures { λ r. ⌜ r ≡ isSide n ⌝ }
+{
+    refusal::either(n == 8, n == 16)
+}
+
+// 14
+pub fn side_reply(block_w: usize, block_h: usize) -> Reply
+    ensures { λ r. ⌜ r ≡ sideReply «block_w» «block_h» ⌝ }
+{
+    refusal::unless(
+        refusal::both(is_side(block_w), is_side(block_h)),
+        Refusal::Choice,
+        Reply::Done,
+    )
+}
+
+// What turns an interpolation back: 4, 5, 8, 12, 14.
+pub fn block_reply(
+    geometry: Geometry,
+    bytes: usize,
+    vector: MotionVector,
+    origin: Point,
+    block_w: usize,
+    block_h: usize,
+    area: usize,
+) -> Reply
+    ensures { λ r. ⌜ r ≡ blockReply geometry bytes vector origin «block_w» «block_h» area ⌝ }
+{
+    let sides = side_reply(block_w, block_h);
+    let last = refusal::and_then(length_reply(area, block_w, block_h), sides);
+    let second = refusal::and_then(motion_reply(vector, origin), last);
+    refusal::and_then(reference_reply(geometry, bytes), second)
+}
+
+// The sample at column x and row y, both clamped: 4, 5.
+pub fn fetch_clamped(samples: &[u8], geometry: Geometry, x: i32, y: i32) -> Fetched
+    ensures { λ r. ⌜ r ≡ fetched (now (samples .entry)) geometry x y ⌝ }
+{
+    match reference_reply(geometry, samples.len()) {
+        Reply::Refused(why) => Fetched::Refused(why),
+        Reply::Done => Fetched::Sample(copy::sample(samples, geometry, x, y)),
+    }
+}
+
+// The block of w columns and h rows from a point on, row by row: 4, 5, 12.
+pub fn copy_block(
+    samples: &[u8],
+    geometry: Geometry,
+    at: Point,
+    w: usize,
+    h: usize,
+    out: &mut [u8],
+) -> Reply
+    ensures { λ r. ⌜ r ≡ copyReply geometry (length (now (samples .entry))) w h (length (now (out .entry))) ⌝ }
+    ensures { λ r. ⌜ now (out .exit) ≡ done r (copiedBlock (planeOf (now (samples .entry)) geometry) at w h) (now (out .entry)) ⌝ }
+{
+    let reply = refusal::and_then(
+        reference_reply(geometry, samples.len()),
+        length_reply(out.len(), w, h),
+    );
+    match reply {
+        Reply::Refused(why) => Reply::Refused(why),
+        Reply::Done => {
+            copy::copy_rows(samples, geometry, at, w, h, out);
+            Reply::Done
+        }
+    }
+}

@@ -1,0 +1,1 @@
+// The source picture of a macroblock: its planes' refusals, and its blocks.

@@ -1,0 +1,43 @@
+// What coder and reader both hold: a motion vector, and the record of a macroblock.
+ghost use mathlib.Core.Path.{_≡_};
+ghost use Rattle.record.specs.Zero.{zeroVector, noRecord};
+
+// In half or quarter samples, as the mode has it.
+pub struct MotionVector {
+    pub x: i32,
+    pub y: i32,
+}
+
+// A macroblock as it is coded: the one vector and its sum; the four vectors and theirs, all 0 where four were not searched for;
+// block 0 is the luma pattern's bit worth 8, Cb the chroma pattern's bit worth 2; how many events each of the six blocks has.
+pub struct Record {
+    pub vector: MotionVector,
+    pub sum: u32,
+    pub vectors: [MotionVector; 4],
+    pub sums: [u32; 4],
+    pub luma_pattern: u8,
+    pub chroma_pattern: u8,
+    pub counts: [u8; 6],
+}
+
+pub fn zero_vector() -> MotionVector
+    ensures { λ r. ⌜ r ≡ zeroVector ⌝ }
+{
+    MotionVector { x: 0, y: 0 }
+}
+
+// The record of a refused call.
+pub fn no_record() -> Record
+    ensures { λ r. ⌜ r ≡ noRecord ⌝ }
+{
+    let zero = zero_vector();
+    Record {
+        vector: zero,
+        sum: 0,
+        vectors: [zero; 4],
+        sums: [0; 4],
+        luma_pattern: 0,
+        chroma_pattern: 0,
+        counts: [0; 6],
+    }
+}

@@ -1,0 +1,3 @@
+pub mod Product
+pub mod Replies
+pub mod Tests

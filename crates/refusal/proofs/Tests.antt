@@ -1,0 +1,38 @@
+-- What a test that held tells. Assumes nothing.
+use Prim.Native.Nat.{ℕ, _+_, _*_, _/_, _%_, _≤_, _<_}
+use native.Mathlib.Omega.{arith}
+use native.Mathlib.Nat.{div-add-mod'}
+use mathlib.Core.Bool.{Bool, true, false, _&&_, _||_}
+use mathlib.Core.Path.{_≡_, refl, sym, _∙_}
+use lib.Dec.{leb, eqb}
+use lib.IntN.{ℤ}
+use lib.Signed.{leZ}
+use borrow.Author.Tests.{leb-true}
+use Rattle.basis.specs.Parts.{above, below}
+use Rattle.basis.proofs.Signed.{le-true}
+use Rattle.refusal.specs.Test.{between, inRange}
+
+pub and-left : (a b : Bool) → (a && b) ≡ true → a ≡ true
+and-left true b e = refl
+and-left false b e = e
+
+pub and-right : (a b : Bool) → (a && b) ≡ true → b ≡ true
+and-right true b e = e
+and-right false true e = refl
+and-right false false e = e
+
+pub or-elim : (a b : Bool) (P : Type 0) → (a ≡ true → P) → (b ≡ true → P) → (a || b) ≡ true → P
+or-elim true b P f g e = f refl
+or-elim false b P f g e = g e
+
+pub between-low : (low high n : ℕ) → between low high n ≡ true → low ≤ n
+between-low low high n e = leb-true low n (and-left (leb low n) (leb n high) e)
+
+pub between-high : (low high n : ℕ) → between low high n ≡ true → n ≤ high
+between-high low high n e = leb-true n high (and-right (leb low n) (leb n high) e)
+
+pub range-low : (low high z : ℤ) → inRange low high z ≡ true → above low + below z ≤ above z + below low
+range-low low high z e = le-true low z (and-left (leZ low z) (leZ z high) e)
+
+pub range-high : (low high z : ℤ) → inRange low high z ≡ true → above z + below high ≤ above high + below z
+range-high low high z e = le-true z high (and-right (leZ low z) (leZ z high) e)
