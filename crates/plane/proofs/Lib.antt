@@ -1,3 +1,6 @@
+pub mod Copied
 pub mod Inside
+pub mod Moved
 pub mod Ready
+pub mod ReadySource
 pub mod Rows

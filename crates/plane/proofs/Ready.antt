@@ -5,15 +5,15 @@ use mathlib.Core.Bool.{Bool, true, _&&_, _||_}
 use mathlib.Core.List.{List}
 use mathlib.Core.Path.{_≡_, sym, ap, _∙_}
 use lib.Dec.{ltb, eqb}
-use lib.IntN.{ℤ}
+use lib.IntN.{pos, negsuc}
 use lib.ListN.{length}
-use borrow.Author.Tests.{ltb-true, eqb-true}
+use borrow.Author.Tests.{ltb-true, eqb-true, eq-eqb}
 use Rattle.basis.proofs.Bounds.{product-le}
 use Rattle.refusal.specs.declared.Refusal.the-variants.{ReferenceSize, ReferenceBytes, Place, Length, Choice}
 use Rattle.refusal.specs.declared.Reply.{Reply}
 use Rattle.refusal.specs.declared.Reply.the-variants.{Done}
 use Rattle.refusal.specs.Reply.{unless, andThen}
-use Rattle.refusal.specs.Test.{between}
+use Rattle.refusal.specs.Test.{between, inRange}
 use Rattle.refusal.proofs.Replies.{first-done, then-done, held, after}
 use Rattle.refusal.proofs.Tests.{and-left, and-right, or-elim, between-low, between-high}
 use Rattle.record.specs.declared.MotionVector.{MotionVector}
@@ -21,7 +21,7 @@ use Rattle.plane.specs.declared.Geometry.{Geometry}
 use Rattle.plane.specs.declared.Point.{Point}
 use Rattle.plane.specs.Plane.{planeOf}
 use Rattle.plane.specs.Held.{Held}
-use Rattle.plane.specs.Reference.{sized, referenceReply, originInRange, vectorInRange, motionReply, lengthReply, isSide, sideReply, blockReply}
+use Rattle.plane.specs.Reference.{sized, referenceReply, originInRange, vectorInRange, motionReply, lengthReply, isSide, sideReply, blockReply, copyReply}
 
 -- the sizes of a reference
 pub record Sized (g : Geometry) : Type 0 where
@@ -70,3 +70,57 @@ usable s g e =
 pub length-is : (area w h : ℕ) → lengthReply area w h ≡ Done → area ≡ w * h
 unfolding lengthReply
 length-is area w h e = eqb-true area (w * h) (held (eqb area (w * h)) Length Done e)
+
+pub length-done : (area w h : ℕ) → area ≡ w * h → lengthReply area w h ≡ Done
+unfolding lengthReply
+length-done area w h e = ap (λ (t : Bool). unless t Length Done) (eq-eqb area (w * h) e)
+
+-- a copy of a reference that is usable, into an area that fits
+pub copy-done : (g : Geometry) (bytes w h area : ℕ) → referenceReply g bytes ≡ Done → area ≡ w * h → copyReply g bytes w h area ≡ Done
+unfolding copyReply
+copy-done g bytes w h area e f = ap (λ (r : Reply). andThen r (lengthReply area w h)) e ∙ length-done area w h f
+
+-- a block side is 8 or 16
+pub record Side (n : ℕ) : Type 0 where
+  pub low : 8 ≤ n
+  pub high : n ≤ 16
+
+side-is : (n : ℕ) → isSide n ≡ true → Side n
+side-is n e =
+    or-elim (eqb n 8) (eqb n 16) (Side n)
+    (λ q. let k = eqb-true n 8 q in record { low = omega arith; high = omega arith })
+    (λ q. let k = eqb-true n 16 q in record { low = omega arith; high = omega arith }) e
+
+-- each test of an interpolation has passed
+pub record BlockReady (s : List ℕ) (g : Geometry) (v : MotionVector) (o : Point) (w h area : ℕ) : Type 0 where
+  pub reference : referenceReply g (length s) ≡ Done
+  pub origin-x : inRange (negsuc 4095) (pos 4096) (o .x) ≡ true
+  pub origin-y : inRange (negsuc 4095) (pos 4096) (o .y) ≡ true
+  pub vector-x : inRange (negsuc 2047) (pos 2047) (v .x) ≡ true
+  pub vector-y : inRange (negsuc 2047) (pos 2047) (v .y) ≡ true
+  pub fits : area ≡ w * h
+  pub side-w : Side w
+  pub side-h : Side h
+
+pub block-ready : (s : List ℕ) (g : Geometry) (v : MotionVector) (o : Point) (w h area : ℕ) → blockReply g (length s) v o w h area ≡ Done → BlockReady s g v o w h area
+unfolding blockReply motionReply sideReply
+block-ready s g v o w h area e =
+    let r = referenceReply g (length s) in
+    let m = motionReply v o in
+    let l = lengthReply area w h in
+    let e1 = then-done r (andThen m (andThen l (sideReply w h))) e in
+    let e2 = then-done m (andThen l (sideReply w h)) e1 in
+    let moved = held (originInRange o && vectorInRange v) Place Done (first-done m (andThen l (sideReply w h)) e1) in
+    let at = and-left (originInRange o) (vectorInRange v) moved in
+    let by = and-right (originInRange o) (vectorInRange v) moved in
+    let sides = held (isSide w && isSide h) Choice Done (then-done l (sideReply w h) e2) in
+    record {
+      reference = first-done r (andThen m (andThen l (sideReply w h))) e;
+      origin-x = and-left (inRange (negsuc 4095) (pos 4096) (o .x)) (inRange (negsuc 4095) (pos 4096) (o .y)) at;
+      origin-y = and-right (inRange (negsuc 4095) (pos 4096) (o .x)) (inRange (negsuc 4095) (pos 4096) (o .y)) at;
+      vector-x = and-left (inRange (negsuc 2047) (pos 2047) (v .x)) (inRange (negsuc 2047) (pos 2047) (v .y)) by;
+      vector-y = and-right (inRange (negsuc 2047) (pos 2047) (v .x)) (inRange (negsuc 2047) (pos 2047) (v .y)) by;
+      fits = length-is area w h (first-done l (sideReply w h) e2);
+      side-w = side-is w (and-left (isSide w) (isSide h) sides);
+      side-h = side-is h (and-right (isSide w) (isSide h) sides);
+    }

@@ -10,7 +10,8 @@ use Rattle.basis.specs.Lists.{tabulate}
 use Rattle.basis.proofs.Parts.{above-add}
 use Rattle.basis.proofs.Slices.{part-at, part-length, part-tabulate}
 use Rattle.plane.specs.Plane.{Plane, clampTo, sampleAt}
-use Rattle.plane.specs.Held.{clampedIn}
+use Rattle.plane.specs.Held.{Held, clampedIn}
+use Rattle.plane.proofs.Inside.{row-in-plane}
 
 -- n samples that all lie in the row, as the part `&row[a..a + n]` has them
 pub straight : (row : List ℕ) (x : ℤ) (a n : ℕ) → a ≡ above x → below x ≡ 0 → a + n ≤ length row
@@ -34,3 +35,19 @@ unfolding sampleAt
 in-row p x y r i z h e =
     within (p .samples) x (r * p .stride) (p .width) i z h
     ∙ ap (λ (q : ℕ). getD (p .samples) (q * p .stride + clampTo (p .width) (x +ℤ pos i)) 0) e
+
+-- n samples of that row from column x on, all of which lie inside it, as the part `&s[a..a + n]` has them
+pub inside-row : (p : Plane) (x : ℕ) (y : ℤ) (r n i : ℕ) → r ≡ clampTo (p .height) y → x + n ≤ p .width → i < n
+    → getD (take (r * p .stride + x + n - (r * p .stride + x)) (drop (r * p .stride + x) (p .samples))) i 0 ≡ sampleAt p (pos x +ℤ pos i) y
+unfolding sampleAt
+inside-row p x y r n i e h k =
+    part-at (p .samples) (r * p .stride + x) n i 0 k
+    ∙ ap (λ (m : ℕ). getD (p .samples) m 0) (place (r * p .stride) (p .width) h)
+    ∙ ap (λ (q : ℕ). getD (p .samples) (q * p .stride + clampTo (p .width) (pos x +ℤ pos i)) 0) e
+  where
+    place : (a w : ℕ) → x + n ≤ w → a + x + i ≡ a + clampTo w (pos x +ℤ pos i)
+    place a w h = omega arith
+
+-- and they lie within the samples
+pub row-end : (p : Plane) (x r n : ℕ) → Held p → r ≤ p .height - 1 → x + n ≤ p .width → r * p .stride + x + n ≤ length (p .samples)
+row-end p x r n h e k = omega (arith, row-in-plane p r h e)

@@ -27,8 +27,8 @@ abbrev pub packed : List ℕ → SourceSize → Plane
 packed samples s = record { samples = samples; width = s .width; height = s .height; stride = s .width }
 
 -- 6: a side not 1..4,096
-unfoldable pub sideReply : SourceSize → Reply
-sideReply s = unless (between 1 4096 (s .width) && between 1 4096 (s .height)) SourceSide Done
+unfoldable pub sourceSideReply : SourceSize → Reply
+sourceSideReply s = unless (between 1 4096 (s .width) && between 1 4096 (s .height)) SourceSide Done
 
 -- whether a plane of n samples is at least as long as its width times its height
 abbrev pub holds : SourceSize → ℕ → Bool
@@ -40,14 +40,14 @@ placeReply s at = unless (ltb (at .column) ((s .width + 15) / 16) && ltb (at .ro
 
 -- 6, 7, 8 where luma alone is handed in, where one chroma plane is, and where all three are
 unfoldable pub lumaReply : SourceSize → ℕ → MacroblockPlace → Reply
-lumaReply s y at = andThen (sideReply s) (unless (holds s y) SourcePlane (placeReply s at))
+lumaReply s y at = andThen (sourceSideReply s) (unless (holds s y) SourcePlane (placeReply s at))
 
 unfoldable pub chromaReply : SourceSize → ℕ → MacroblockPlace → Reply
-chromaReply s c at = andThen (sideReply s) (unless (holds (chromaSize s) c) SourcePlane (placeReply s at))
+chromaReply s c at = andThen (sourceSideReply s) (unless (holds (chromaSize s) c) SourcePlane (placeReply s at))
 
 unfoldable pub sourceReply : SourceSize → ℕ → ℕ → ℕ → MacroblockPlace → Reply
 sourceReply s y cb cr at =
-    andThen (sideReply s) (unless (holds s y && (holds (chromaSize s) cb && holds (chromaSize s) cr)) SourcePlane (placeReply s at))
+    andThen (sourceSideReply s) (unless (holds s y && (holds (chromaSize s) cb && holds (chromaSize s) cr)) SourcePlane (placeReply s at))
 
 -- the 16 x 16 luma block and an 8 x 8 chroma block of a macroblock
 abbrev pub lumaBlock : List ℕ → SourceSize → MacroblockPlace → List ℕ

@@ -1,1 +1,177 @@
-// The source picture of a macroblock: its planes' refusals, and its blocks.
+// The source picture of a macroblock: what its sizes, planes and place are refused for (6, 7, 8), and its blocks.
+// Nothing here adds or multiplies sizes that are not yet known to be small, so every refusal is judged for any numbers.
+ghost use mathlib.Core.Path.{_≡_};
+ghost use Prim.Native.Nat.{_+_, _*_, _/_, _<_, _≤_};
+ghost use lib.IntN.{pos};
+ghost use lib.ListN.{length};
+ghost use Rattle.basis.specs.Lists.{raster};
+ghost use Rattle.refusal.specs.Reply.{done};
+ghost use Rattle.plane.specs.Plane.{copied};
+ghost use Rattle.plane.specs.Held.{Held};
+ghost use Rattle.plane.specs.Source.{halved, chromaSize, packed, sourceSideReply, holds, placeReply, lumaReply, chromaReply, sourceReply, lumaBlock, chromaBlock, lumaBlockReply, chromaBlockReply};
+use crate::Geometry;
+use crate::MacroblockPlace;
+use crate::Point;
+use crate::SourceSize;
+use refusal::Refusal;
+use refusal::Reply;
+
+fn halved(n: usize) -> usize
+    ensures { λ r. ⌜ r ≡ halved n ⌝ }
+{
+    n / 2 + n % 2
+}
+
+fn chroma_size(size: SourceSize) -> SourceSize
+    ensures { λ r. ⌜ r ≡ chromaSize size ⌝ }
+{
+    SourceSize {
+        width: halved(size.width),
+        height: halved(size.height),
+    }
+}
+
+// How many macroblocks cover a side.
+fn macroblocks(side: usize) -> usize
+    ensures { λ r. ⌜ r ≡ (side + 15) / 16 ⌝ }
+{
+    side / 16 + (side % 16 + 15) / 16
+}
+
+// Whether n samples are a plane's width times its height or more.
+fn holds(size: SourceSize, n: usize) -> bool
+    ensures { λ r. ⌜ r ≡ holds size n ⌝ }
+{
+    if size.width == 0 {
+        return true;
+    }
+    size.height <= n / size.width
+}
+
+// 6
+fn side_reply(size: SourceSize) -> Reply
+    ensures { λ r. ⌜ r ≡ sourceSideReply size ⌝ }
+{
+    refusal::unless(
+        refusal::both(
+            refusal::between(1, 4096, size.width),
+            refusal::between(1, 4096, size.height),
+        ),
+        Refusal::SourceSide,
+        Reply::Done,
+    )
+}
+
+// 8
+fn place_reply(size: SourceSize, place: MacroblockPlace) -> Reply
+    ensures { λ r. ⌜ r ≡ placeReply size place ⌝ }
+{
+    let columns = macroblocks(size.width);
+    let rows = macroblocks(size.height);
+    refusal::unless(
+        refusal::both(place.column < columns, place.row < rows),
+        Refusal::Place,
+        Reply::Done,
+    )
+}
+
+// 6, 7 for luma alone, 8.
+pub fn luma_reply(size: SourceSize, y: usize, place: MacroblockPlace) -> Reply
+    ensures { λ r. ⌜ r ≡ lumaReply size y place ⌝ }
+{
+    let last = refusal::unless(
+        holds(size, y),
+        Refusal::SourcePlane,
+        place_reply(size, place),
+    );
+    refusal::and_then(side_reply(size), last)
+}
+
+// 6, 7 for one chroma plane, 8.
+pub fn chroma_reply(size: SourceSize, chroma: usize, place: MacroblockPlace) -> Reply
+    ensures { λ r. ⌜ r ≡ chromaReply size chroma place ⌝ }
+{
+    let last = refusal::unless(
+        holds(chroma_size(size), chroma),
+        Refusal::SourcePlane,
+        place_reply(size, place),
+    );
+    refusal::and_then(side_reply(size), last)
+}
+
+// 6, 7 for all three planes, 8.
+pub fn source_reply(
+    size: SourceSize,
+    y: usize,
+    cb: usize,
+    cr: usize,
+    place: MacroblockPlace,
+) -> Reply
+    ensures { λ r. ⌜ r ≡ sourceReply size y cb cr place ⌝ }
+{
+    let small = chroma_size(size);
+    let planes = refusal::both(
+        holds(size, y),
+        refusal::both(holds(small, cb), holds(small, cr)),
+    );
+    let last = refusal::unless(planes, Refusal::SourcePlane, place_reply(size, place));
+    refusal::and_then(side_reply(size), last)
+}
+
+// The block of `side` columns and rows that is the macroblock's in a plane of this size.
+fn copy_part(samples: &[u8], size: SourceSize, place: MacroblockPlace, side: usize, out: &mut [u8])
+    requires { ⌜ Held (packed (now samples) size) × (place .column < 256) × (place .row < 256) × (side ≤ 16) × (length (now out) ≡ side * side) ⌝ }
+    ensures { λ _. ⌜ now (out .exit) ≡ raster side side (copied (packed (now (samples .entry)) size) (pos (side * place .column)) (pos (side * place .row))) ⌝ }
+{
+    let geometry = Geometry {
+        width: size.width,
+        height: size.height,
+        stride: size.width,
+    };
+    let at = Point {
+        x: (side * place.column) as i32,
+        y: (side * place.row) as i32,
+    };
+    crate::copy::copy_rows(samples, geometry, at, side, side, out);
+}
+
+// The macroblock's 16 x 16 luma samples, row by row: 6, 7, 8, 12.
+pub fn luma_block(y: &[u8], size: SourceSize, place: MacroblockPlace, out: &mut [u8]) -> Reply
+    ensures { λ r. ⌜ r ≡ lumaBlockReply size (length (now (y .entry))) place (length (now (out .entry))) ⌝ }
+    ensures { λ r. ⌜ now (out .exit) ≡ done r (lumaBlock (now (y .entry)) size place) (now (out .entry)) ⌝ }
+{
+    let reply = refusal::and_then(
+        luma_reply(size, y.len(), place),
+        crate::length_reply(out.len(), 16, 16),
+    );
+    match reply {
+        Reply::Refused(why) => Reply::Refused(why),
+        Reply::Done => {
+            copy_part(y, size, place, 16, out);
+            Reply::Done
+        }
+    }
+}
+
+// The macroblock's 8 x 8 samples of a chroma plane, row by row: 6, 7, 8, 12. The size is luma's.
+pub fn chroma_block(
+    chroma: &[u8],
+    size: SourceSize,
+    place: MacroblockPlace,
+    out: &mut [u8],
+) -> Reply
+    ensures { λ r. ⌜ r ≡ chromaBlockReply size (length (now (chroma .entry))) place (length (now (out .entry))) ⌝ }
+    ensures { λ r. ⌜ now (out .exit) ≡ done r (chromaBlock (now (chroma .entry)) size place) (now (out .entry)) ⌝ }
+{
+    let reply = refusal::and_then(
+        chroma_reply(size, chroma.len(), place),
+        crate::length_reply(out.len(), 8, 8),
+    );
+    match reply {
+        Reply::Refused(why) => Reply::Refused(why),
+        Reply::Done => {
+            copy_part(chroma, chroma_size(size), place, 8, out);
+            Reply::Done
+        }
+    }
+}

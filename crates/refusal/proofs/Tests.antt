@@ -1,15 +1,15 @@
 -- What a test that held tells. Assumes nothing.
-use Prim.Native.Nat.{ℕ, _+_, _*_, _/_, _%_, _≤_, _<_}
-use native.Mathlib.Omega.{arith}
-use native.Mathlib.Nat.{div-add-mod'}
+use Prim.Native.Nat.{ℕ, _+_, _≤_, _<_, _^_}
 use mathlib.Core.Bool.{Bool, true, false, _&&_, _||_}
-use mathlib.Core.Path.{_≡_, refl, sym, _∙_}
-use lib.Dec.{leb, eqb}
+use mathlib.Core.Path.{_≡_, refl, ap, _∙_}
+use lib.Dec.{leb}
 use lib.IntN.{ℤ}
-use lib.Signed.{leZ}
+use lib.Signed.{leZ, mag}
+use mir.Syntax.{w32}
+use mir.Val.{toZ, ofZ}
 use borrow.Author.Tests.{leb-true}
 use Rattle.basis.specs.Parts.{above, below}
-use Rattle.basis.proofs.Signed.{le-true}
+use Rattle.basis.proofs.Signed.{le-true, of-bits}
 use Rattle.refusal.specs.Test.{between, inRange}
 
 pub and-left : (a b : Bool) → (a && b) ≡ true → a ≡ true
@@ -36,3 +36,7 @@ range-low low high z e = le-true low z (and-left (leZ low z) (leZ z high) e)
 
 pub range-high : (low high z : ℤ) → inRange low high z ≡ true → above z + below high ≤ above high + below z
 range-high low high z e = le-true z high (and-right (leZ low z) (leZ z high) e)
+
+-- of a signed field, which is read back from its bits
+pub range-read : (low high z : ℤ) → mag z < 2 ^ 31 → inRange low high z ≡ true → inRange low high (toZ w32 (ofZ w32 z)) ≡ true
+range-read low high z h e = ap (inRange low high) (of-bits z h) ∙ e

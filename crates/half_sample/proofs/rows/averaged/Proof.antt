@@ -1,0 +1,101 @@
+-- `half_sample::rows::averaged` meets its contract. Assumes nothing.
+use native.Mathlib.Omega.{arith}
+use Prim.Native.Nat.{ℕ, _+_, _<_, _≤_}
+use mathlib.Core.Path.{_≡_, sym, ap, ap₂, _∙_}
+use lib.IntN.{ℤ, pos, natAbs}
+use lib.ListN.{length}
+use lib.Signed.{mag}
+use mir.Syntax.{w32, w64}
+use mir.Val.{SFits, toZ, ofZ}
+use mir.Facts.{sfits-lit}
+use Rattle.basis.specs.Parts.{above, below}
+use Rattle.basis.specs.Lists.{raster}
+use Rattle.basis.proofs.Parts.{sides, above-pos, fits-above}
+use Rattle.basis.proofs.Signed.{lt-read, lt-false, cast-read, cast-value, of-bits}
+use Rattle.plane.specs.Plane.{planeOf}
+use Rattle.plane.proofs.Ready.{usable}
+use Rattle.half_sample.specs.Block.{sampleFrom}
+use Rattle.half_sample.proofs.Averages.{reach-high}
+use borrow.Author.Needs.{needs}
+use Rattle.half_sample.proofs.rows.averaged.Statement.{statement}
+use Rattle.half_sample.proofs.rows.averaged.Tie as tie
+
+-- where the test failed the block does not start left of the plane
+module _ (c : tie.Else1) where
+  abbrev s : tie.Start
+  s = c .before .before .before .before
+
+  abbrev x : ℤ
+  x = s .args .at .x
+
+  fits : SFits w32 x
+  fits = record { sfits = c .before .struct-told .given .0 .1 }
+
+  not-negative : below x ≡ 0
+  not-negative = omega (arith, sides x, lt-false x (pos 0) (sym (lt-read w32 x (pos 0) fits (sfits-lit tt)) ∙ c .if1 .left))
+
+  column-is : natAbs (toZ w32 (ofZ w32 x)) ≡ above x
+  column-is = cast-value w32 x fits not-negative
+
+crossing-requires : tie.Need-crossing-requires
+crossing-requires c κs = search needs
+
+same-length : tie.Need-same-length
+same-length c = search needs
+
+returns : tie.Need-returns
+returns c = search needs
+
+cast-column : tie.Need-cast-column
+cast-column c = cast-read w32 w64 (x c) tt (fits c) (not-negative c)
+
+reach-requires : tie.Need-reach-requires
+reach-requires c κs = search needs
+
+add-if2 : tie.Need-add-if2
+add-if2 c =
+    let e = c .before in
+    omega (arith, column-is e, fits-above (x e) (fits e), reach-high (s e .args .w) (s e .args .half-x), c .reach .ensures)
+
+crossing-requires-2 : tie.Need-crossing-requires-2
+crossing-requires-2 c κs = search needs
+
+same-length-2 : tie.Need-same-length-2
+same-length-2 c = search needs
+
+returns-2 : tie.Need-returns-2
+returns-2 c = search needs
+
+plane-rows-requires : tie.Need-plane-rows-requires
+plane-rows-requires c κs =
+    let z = c .before .before .before .before .before .before .before .before .before in
+    (usable _ _ (z .pre .0) .hold, omega (arith, c .before .before .if2 .left, c .before .before .before .before .reach .ensures), omega arith, omega arith, z .pre .5, z .pre .6, z .pre .7)
+
+same-length-3 : tie.Need-same-length-3
+same-length-3 c = search needs
+
+returns-3 : tie.Need-returns-3
+returns-3 c =
+    let e = c .before .before .before .before .before .before .before .before in
+    let z = s e in
+    let a = z .args in
+    c .before .before .plane-rows .ensures
+    ∙ ap₂ (λ (p q : ℤ). raster (a .w) (a .h) (sampleFrom (planeOf (a .samples .now) (a .geometry)) p q (a .half-x) (a .half-y) (a .rc)))
+    (ap pos (column-is e) ∙ above-pos (x e) (not-negative e)) (of-bits (a .at .y) (c .before .before .before .struct-told2 .given .1 .0 .1))
+
+pub averaged-spec : {M : Type 1} → statement M
+averaged-spec =
+    tie.close
+    (tie.spec
+    crossing-requires
+    same-length
+    returns
+    cast-column
+    reach-requires
+    add-if2
+    crossing-requires-2
+    same-length-2
+    returns-2
+    plane-rows-requires
+    same-length-3
+    returns-3)

@@ -1,0 +1,67 @@
+-- `half_sample::rows::crossing` meets its contract. Assumes nothing.
+use Prim.Native.Nat.{ℕ, _*_, _≤_}
+use native.Mathlib.Omega.{arith}
+use mathlib.Core.Path.{_≡_, sym, ap₂, _∙_}
+use lib.Seq.{length-take-le}
+use Rattle.basis.proofs.Bounds.{product-le}
+use Rattle.half_sample.proofs.Averages.{reach-high}
+use borrow.Author.Needs.{needs}
+use Rattle.half_sample.proofs.rows.crossing.Statement.{statement}
+use Rattle.half_sample.proofs.rows.crossing.Tie as tie
+
+-- the copy fits the buffer
+fits : (c : tie.After-reach2) → c .before .reach .result * c .reach2 .result ≤ 289
+fits c =
+    let s = c .before .before .before .before in
+    let w : c .before .reach .result ≤ 17 = omega (arith, reach-high (s .args .w) (s .args .half-x)) in
+    let h : c .reach2 .result ≤ 17 = omega (arith, reach-high (s .args .h) (s .args .half-y)) in
+    product-le w h
+
+reach-requires : tie.Need-reach-requires
+reach-requires c κs = search needs
+
+reach-requires-2 : tie.Need-reach-requires-2
+reach-requires-2 c κs = search needs
+
+mul-count : tie.Need-mul-count
+mul-count c = omega (arith, fits c)
+
+array-borrow-prefix-buffer : tie.Need-array-borrow-prefix-buffer
+array-borrow-prefix-buffer c = fits c
+
+slice-aggregate-copied-rows : tie.Need-slice-aggregate-copied-rows
+slice-aggregate-copied-rows c = sym (length-take-le _ _ (fits (c .before)))
+
+copied-rows-requires : tie.Need-copied-rows-requires
+copied-rows-requires c κs =
+    let s = c .before .before .before .before .before .before in
+    let d = c .before .before in (
+      s .pre .0,
+      s .pre .1,
+      s .pre .2,
+      omega arith,
+      omega arith,
+      s .pre .5,
+      s .pre .6,
+      length-take-le _ _ (fits d) ∙ ap₂ (λ (w h : ℕ). w * h) (d .before .reach .ensures) (d .reach2 .ensures),
+      s .pre .7,
+    )
+
+same-length : tie.Need-same-length
+same-length c = search needs
+
+returns : tie.Need-returns
+returns c = search needs
+
+pub crossing-spec : {M : Type 1} → statement M
+crossing-spec =
+    tie.close
+    (tie.spec
+    reach-requires
+    reach-requires-2
+    mul-count
+    array-borrow-prefix-buffer
+    slice-aggregate-copied-rows
+    copied-rows-requires
+    same-length
+    returns)

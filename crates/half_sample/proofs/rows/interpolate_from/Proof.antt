@@ -1,0 +1,70 @@
+-- `half_sample::rows::interpolate_from` meets its contract. Assumes nothing.
+use native.Mathlib.Omega.{arith}
+use native.Mathlib.Nat.{mul-comm}
+use mathlib.Core.Bool.{Bool, true, false}
+use mathlib.Core.Path.{_≡_, sym, ap, ap₂, _∙_}
+use lib.ListN.{length}
+use Rattle.basis.specs.Lists.{raster}
+use Rattle.basis.proofs.Case.{or-left, or-right}
+use Rattle.refusal.specs.declared.Reply.{Reply}
+use Rattle.refusal.specs.declared.Reply.the-variants.{Done}
+use Rattle.refusal.specs.Reply.{done}
+use Rattle.plane.specs.Plane.{planeOf, copiedBlock}
+use Rattle.plane.proofs.Ready.{copy-done}
+use Rattle.half_sample.specs.Block.{sampleFrom}
+use borrow.Author.Needs.{needs}
+use Rattle.half_sample.proofs.rows.interpolate_from.Statement.{statement}
+use Rattle.half_sample.proofs.rows.interpolate_from.Tie as tie
+
+averaged-requires : tie.Need-averaged-requires
+averaged-requires c κs =
+    let z = c .before .before .before .before in
+    (z .pre .0, z .pre .1, z .pre .2, z .pre .3, z .pre .4, or-left (z .args .half-x) (z .args .half-y) (c .before .if1 .taken), z .pre .5, z .pre .6)
+
+same-length : tie.Need-same-length
+same-length c = search needs
+
+returns : tie.Need-returns
+returns c = search needs
+
+averaged-requires-2 : tie.Need-averaged-requires-2
+averaged-requires-2 c κs =
+    let z = c .before .before .before .before .before in
+    (z .pre .0, z .pre .1, z .pre .2, z .pre .3, z .pre .4, or-right (z .args .half-x) (z .args .half-y) (c .before .if2 .taken), z .pre .5, z .pre .6)
+
+same-length-2 : tie.Need-same-length-2
+same-length-2 c = search needs
+
+returns-2 : tie.Need-returns-2
+returns-2 c = search needs
+
+copy-block-requires : tie.Need-copy-block-requires
+copy-block-requires c κs = search needs
+
+same-length-3 : tie.Need-same-length-3
+same-length-3 c = search needs
+
+returns-3 : tie.Need-returns-3
+returns-3 c =
+    let z = c .before .before .before .before .before .before .before .before in
+    let a = z .args in
+    let p = planeOf (a .samples .now) (a .geometry) in
+    let d = c .before .before in
+    d .copy-block .ensures .1
+    ∙ ap (λ (r : Reply). done r (copiedBlock p (a .at) (a .w) (a .h)) (a .out .now))
+    (d .copy-block .ensures .0 ∙ copy-done (a .geometry) (length (a .samples .now)) (a .w) (a .h) (length (a .out .now)) (z .pre .0) (z .pre .6 ∙ mul-comm (a .h) (a .w)))
+    ∙ ap₂ (λ (t u : Bool). raster (a .w) (a .h) (sampleFrom p (a .at .x) (a .at .y) t u (a .rc))) (sym (c .before .before .before .before .before .if1 .left)) (sym (c .before .before .before .before .if2 .left))
+
+pub interpolate-from-spec : {M : Type 1} → statement M
+interpolate-from-spec =
+    tie.close
+    (tie.spec
+    averaged-requires
+    same-length
+    returns
+    averaged-requires-2
+    same-length-2
+    returns-2
+    copy-block-requires
+    same-length-3
+    returns-3)

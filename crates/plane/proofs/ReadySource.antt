@@ -1,0 +1,164 @@
+-- What holds of a source that is not refused, and what its tests by division tell. Assumes nothing.
+use Prim.Native.Nat.{ℕ, _+_, _-_, _*_, _/_, _≤_, _<_}
+use native.Mathlib.Omega.{arith}
+use native.Mathlib.Nat.{le-div-iff-mul-le, mul-comm, zero-mul}
+use mathlib.Core.Bool.{Bool, true, false, _&&_}
+use mathlib.Core.List.{List}
+use mathlib.Core.Path.{_≡_, refl, sym, ap, _∙_}
+use lib.Dec.{leb, ltb}
+use lib.ListN.{length}
+use borrow.Author.Tests.{leb-true, leb-false, le-leb, ltb-true}
+use Rattle.basis.proofs.Bounds.{row-before}
+use Rattle.refusal.specs.declared.Refusal.the-variants.{SourceSide, SourcePlane, Place}
+use Rattle.refusal.specs.declared.Reply.{Reply}
+use Rattle.refusal.specs.declared.Reply.the-variants.{Done}
+use Rattle.refusal.specs.Reply.{unless, andThen}
+use Rattle.refusal.specs.Test.{between}
+use Rattle.refusal.proofs.Replies.{joined, first-done, then-done, held, after}
+use Rattle.refusal.proofs.Tests.{and-left, and-right, between-low, between-high}
+use Rattle.plane.specs.declared.SourceSize.{SourceSize}
+use Rattle.plane.specs.declared.MacroblockPlace.{MacroblockPlace}
+use Rattle.plane.specs.Held.{Held}
+use Rattle.plane.specs.Source.{chromaSize, packed, sourceSideReply, holds, placeReply, lumaReply, chromaReply, sourceReply}
+
+-- two tests of order agree where each fact follows from the other
+leb-same : (a b c d : ℕ) → (a ≤ b → c ≤ d) → (c ≤ d → a ≤ b) → leb a b ≡ leb c d
+leb-same a b c d f g = by (leb a b) (leb c d) refl refl
+  where
+    by : (t u : Bool) → leb a b ≡ t → leb c d ≡ u → leb a b ≡ leb c d
+    by true u p q = p ∙ sym (le-leb c d (f (leb-true a b p)))
+    by false true p q = absurd (omega (arith, leb-false a b p, g (leb-true c d q)))
+    by false false p q = p ∙ sym q
+
+-- a plane without columns, and one that has some
+pub holds-none : (n w h : ℕ) → w ≡ 0 → true ≡ leb (w * h) n
+holds-none n w h e = sym (le-leb (w * h) n (omega (arith, ap (λ (k : ℕ). k * h) e ∙ zero-mul h)))
+
+pub holds-some : (n w h : ℕ) → (w ≡ 0 → ⊥) → leb h (n / w) ≡ leb (w * h) n
+holds-some n w h t =
+    leb-same h (n / w) (w * h) n
+    (λ p. omega (arith, mul-comm w h, le-div-iff-mul-le some .0 p))
+    (λ p. le-div-iff-mul-le some .1 (omega (arith, mul-comm w h)))
+  where
+    some : 0 < w
+    some = omega (arith, t)
+
+-- 6, 7, 8 in a row, as the code joins them
+pub judging : {r a a′ b n n′ : Reply} {t t′ : Bool} → r ≡ andThen a b → a ≡ a′ → b ≡ unless t SourcePlane n → t ≡ t′ → n ≡ n′
+    → r ≡ andThen a′ (unless t′ SourcePlane n′)
+judging {r} {a} {a′} {b} {n} {n′} {t} {t′} e p q u v =
+    joined e p (q ∙ ap (λ (x : Bool). unless x SourcePlane n) u ∙ ap (unless t′ SourcePlane) v)
+
+-- sides that are not refused
+pub record Sides (s : SourceSize) : Type 0 where
+  pub low-w : 1 ≤ s .width
+  pub high-w : s .width ≤ 4096
+  pub low-h : 1 ≤ s .height
+  pub high-h : s .height ≤ 4096
+
+pub sides-are : (s : SourceSize) → sourceSideReply s ≡ Done → Sides s
+unfolding sourceSideReply
+sides-are s e =
+    let t = held (between 1 4096 (s .width) && between 1 4096 (s .height)) SourceSide Done e in
+    let w = and-left (between 1 4096 (s .width)) (between 1 4096 (s .height)) t in
+    let h = and-right (between 1 4096 (s .width)) (between 1 4096 (s .height)) t in
+    record {
+      low-w = between-low 1 4096 (s .width) w;
+      high-w = between-high 1 4096 (s .width) w;
+      low-h = between-low 1 4096 (s .height) h;
+      high-h = between-high 1 4096 (s .height) h;
+    }
+
+-- a macroblock of the source
+pub record InSource (s : SourceSize) (at : MacroblockPlace) : Type 0 where
+  pub column : at .column < (s .width + 15) / 16
+  pub row : at .row < (s .height + 15) / 16
+
+pub in-source : (s : SourceSize) (at : MacroblockPlace) → placeReply s at ≡ Done → InSource s at
+unfolding placeReply
+in-source s at e =
+    let c = ltb (at .column) ((s .width + 15) / 16) in
+    let r = ltb (at .row) ((s .height + 15) / 16) in
+    let t = held (c && r) Place Done e in
+    record { column = ltb-true _ _ (and-left c r t); row = ltb-true _ _ (and-right c r t) }
+
+-- 6, 7, 8 in a row, whatever 7 tests
+record Judged (s : SourceSize) (t : Bool) (at : MacroblockPlace) : Type 0 where
+  pub sides : Sides s
+  pub planes : t ≡ true
+  pub place : InSource s at
+
+judged : (s : SourceSize) (t : Bool) (at : MacroblockPlace) → andThen (sourceSideReply s) (unless t SourcePlane (placeReply s at)) ≡ Done → Judged s t at
+judged s t at e =
+    let n = then-done (sourceSideReply s) (unless t SourcePlane (placeReply s at)) e in
+    record {
+      sides = sides-are s (first-done (sourceSideReply s) (unless t SourcePlane (placeReply s at)) e);
+      planes = held t SourcePlane (placeReply s at) n;
+      place = in-source s at (after t SourcePlane (placeReply s at) n);
+    }
+
+-- a macroblock of a source whose luma plane is handed in, y samples of it
+pub record LumaReady (s : SourceSize) (y : ℕ) (at : MacroblockPlace) : Type 0 where
+  pub sides : Sides s
+  pub luma : s .width * s .height ≤ y
+  pub place : InSource s at
+
+pub luma-ready : (s : SourceSize) (y : ℕ) (at : MacroblockPlace) → lumaReply s y at ≡ Done → LumaReady s y at
+unfolding lumaReply
+luma-ready s y at e =
+    let j = judged s (holds s y) at e in
+    record { sides = j .sides; luma = leb-true _ _ (j .planes); place = j .place }
+
+-- one chroma plane is
+pub record ChromaReady (s : SourceSize) (c : ℕ) (at : MacroblockPlace) : Type 0 where
+  pub sides : Sides s
+  pub chroma : chromaSize s .width * chromaSize s .height ≤ c
+  pub place : InSource s at
+
+pub chroma-ready : (s : SourceSize) (c : ℕ) (at : MacroblockPlace) → chromaReply s c at ≡ Done → ChromaReady s c at
+unfolding chromaReply
+chroma-ready s c at e =
+    let j = judged s (holds (chromaSize s) c) at e in
+    record { sides = j .sides; chroma = leb-true _ _ (j .planes); place = j .place }
+
+-- all three are: luma's record and each chroma plane's
+pub record SourceReady (s : SourceSize) (y cb cr : ℕ) (at : MacroblockPlace) : Type 0 where
+  pub luma : LumaReady s y at
+  pub blue : ChromaReady s cb at
+  pub red : ChromaReady s cr at
+
+pub source-ready : (s : SourceSize) (y cb cr : ℕ) (at : MacroblockPlace) → sourceReply s y cb cr at ≡ Done → SourceReady s y cb cr at
+unfolding sourceReply
+source-ready s y cb cr at e =
+    let a = holds s y in
+    let b = holds (chromaSize s) cb in
+    let c = holds (chromaSize s) cr in
+    let j = judged s (a && (b && c)) at e in
+    let bc = and-right a (b && c) (j .planes) in
+    record {
+      luma = record { sides = j .sides; luma = leb-true _ _ (and-left a (b && c) (j .planes)); place = j .place };
+      blue = record { sides = j .sides; chroma = leb-true _ _ (and-left b c bc); place = j .place };
+      red = record { sides = j .sides; chroma = leb-true _ _ (and-right b c bc); place = j .place };
+    }
+
+-- a plane as long as its width times its height holds its samples
+packed-held : (l : List ℕ) (s : SourceSize) → 1 ≤ s .width → 1 ≤ s .height → s .width * s .height ≤ length l → Held (packed l s)
+packed-held l s w h n =
+    record {
+      wide = w;
+      high = h;
+      last = omega (arith, row-before {j = s .height - 1} {n = s .height} (s .width) (omega arith), mul-comm (s .width) (s .height));
+    }
+
+pub luma-held : (y : List ℕ) (s : SourceSize) (at : MacroblockPlace) → LumaReady s (length y) at → Held (packed y s)
+luma-held y s at r = packed-held y s (r .sides .low-w) (r .sides .low-h) (r .luma)
+
+pub chroma-held : (c : List ℕ) (s : SourceSize) (at : MacroblockPlace) → ChromaReady s (length c) at → Held (packed c (chromaSize s))
+chroma-held c s at r = packed-held c (chromaSize s) (omega (arith, r .sides .low-w)) (omega (arith, r .sides .low-h)) (r .chroma)
+
+-- a source has at most 256 columns and rows of macroblocks
+pub column-small : (s : SourceSize) (at : MacroblockPlace) → Sides s → InSource s at → at .column < 256
+column-small s at b p = omega (arith, b .high-w, p .column)
+
+pub row-small : (s : SourceSize) (at : MacroblockPlace) → Sides s → InSource s at → at .row < 256
+row-small s at b p = omega (arith, b .high-h, p .row)

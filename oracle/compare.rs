@@ -1,0 +1,40 @@
+//! Compares the static library with the Rust that it was ported from, on random valid and damaged
+//! calls. `half_sample` and `quarter_sample` are the originals, unchanged; they are laid beside
+//! this file before it is compiled.
+//!
+//! A function group is one module with `compare(&Options) -> Result<Summary, String>`; the error
+//! text is the first call that differs, with its whole input.
+
+mod guard;
+#[allow(dead_code)]
+mod half_sample;
+mod library;
+mod options;
+#[allow(dead_code)]
+mod quarter_sample;
+mod random;
+mod sample;
+mod summary;
+
+use options::Options;
+use std::process::exit;
+
+fn main() {
+    let words: Vec<String> = std::env::args().skip(1).collect();
+    let options = Options::parse(&words).unwrap_or_else(|text| {
+        eprintln!("compare: {text}");
+        exit(2)
+    });
+    println!("seed {}", options.seed);
+    let mut groups = Vec::new();
+    for compare in [sample::compare] {
+        match compare(&options) {
+            Ok(summary) => groups.push(summary),
+            Err(text) => {
+                println!("{text}");
+                exit(1)
+            }
+        }
+    }
+    println!("{}", summary::last_line(&groups));
+}
