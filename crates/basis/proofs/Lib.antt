@@ -1,9 +1,11 @@
 pub mod Bits
 pub mod Bounds
 pub mod Case
+pub mod Division
 pub mod Lists
 pub mod Parts
 pub mod Signed
 pub mod Slices
+pub mod Small
 pub mod Sums
 pub mod Table

@@ -35,6 +35,19 @@ module _ {A : Type 0} where
   tabulate-cong (suc n) f g h =
       ap₂ (λ (l : List A) (a : A). l ++ (a ∷ [])) (tabulate-cong n f g (λ i p. h i (omega arith))) (h n (omega arith))
 
+  pub tabulate-join : (a b : ℕ) (f : ℕ → A) → tabulate (a + b) f ≡ tabulate a f ++ tabulate b (λ k. f (a + k))
+  unfolding tabulate
+  tabulate-join a zero f = ap (λ (n : ℕ). tabulate n f) none ∙ sym (append-nil (tabulate a f))
+    where
+      none : a + 0 ≡ a
+      none = omega arith
+  tabulate-join a (suc b) f =
+      ap (λ (n : ℕ). tabulate n f) next ∙ ap (λ (l : List A). l ++ (f (a + b) ∷ [])) (tabulate-join a b f)
+      ∙ append-assoc (tabulate a f) (tabulate b (λ k. f (a + k))) (f (a + b) ∷ [])
+    where
+      next : a + suc b ≡ suc (a + b)
+      next = omega arith
+
   -- a list is made of its elements
   pub tabulate-same : (n : ℕ) (l : List A) (d : A) → length l ≡ n → tabulate n (λ i. getD l i d) ≡ l
   tabulate-same n l d h =
@@ -104,6 +117,10 @@ module _ {A : Type 0} where
             ap (take n) (drop-at (rows m r) (r m) (j * n) (length-rows m ∙ ap (λ (k : ℕ). k * n) e))
             ∙ take-all n (r m) (omega (arith, len m)) ∙ ap r e
 
+    pub getD-rows : (m i j : ℕ) (d : A) → i < n → j < m → getD (rows m r) (j * n + i) d ≡ getD (r j) i d
+    getD-rows m i j d p q =
+        sym (getD-take n (drop (j * n) (rows m r)) i d p ∙ getD-drop (j * n) (rows m r) i d) ∙ ap (λ (l : List A). getD l i d) (row-of m j q)
+
     pub laid-none : (l : List A) → laid n r 0 l ≡ l
     unfolding rows
     laid-none l = ap (λ (k : ℕ). drop k l) (zero-mul n)
@@ -168,5 +185,4 @@ module _ {A : Type 0} where
 
     pub getD-raster : (i j : ℕ) (d : A) → i < w → j < h → getD (raster w h f) (j * w + i) d ≡ f i j
     getD-raster i j d p q =
-        sym (getD-take w (drop (j * w) (raster w h f)) i d p ∙ getD-drop (j * w) (raster w h f) i d)
-        ∙ ap (λ (l : List A). getD l i d) (raster-row j q) ∙ getD-tabulate w (λ i. f i j) i d p
+        getD-rows w (λ j. tabulate w (λ i. f i j)) wide h i j d p q ∙ getD-tabulate w (λ i. f i j) i d p

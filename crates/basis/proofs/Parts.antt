@@ -7,7 +7,7 @@ use mathlib.Core.Path.{_≡_, refl, sym, ap, _∙_}
 use mathlib.Core.Bool.{Bool, true, false, not, cond}
 use lib.Dec.{T, ltb, ltb→lt, nltb→le, leb→le, le→leb, lt→ltb}
 use lib.IntN.{ℤ, pos, negsuc, negℤ, subℕ, natAbs, _+ℤ_, _-ℤ_, _*ℤ_}
-use lib.Signed.{ltZ, leZ, shrZ, nonNeg}
+use lib.Signed.{ltZ, leZ, shrZ, quotZ, nonNeg}
 use Rattle.basis.specs.Parts.{above, below}
 use mir.Syntax.{Width}
 use mir.Val.{SFits, hbits}
@@ -173,3 +173,23 @@ diff-above {z} d = omega (arith, d .same, sides z)
 
 pub diff-below : {z : ℤ} {p n : ℕ} → Diff z p n → below z ≡ n - p
 diff-below {z} d = omega (arith, d .same, sides z)
+
+-- ---- differences of naturals, products in long sums, and the division toward zero
+
+-- the difference of two naturals
+pub difference-low : (a b : ℕ) → a < b → pos a -ℤ pos b ≡ negsuc (b - suc a)
+difference-low a b h =
+    ext (pos a -ℤ pos b) (negsuc (b - suc a)) (above-sub (pos a) (pos b) ∙ omega arith) (below-sub (pos a) (pos b) ∙ omega arith)
+
+pub difference-high : (a b : ℕ) → b ≤ a → pos a -ℤ pos b ≡ pos (a - b)
+difference-high a b h =
+    ext (pos a -ℤ pos b) (pos (a - b)) (above-sub (pos a) (pos b) ∙ omega arith) (below-sub (pos a) (pos b) ∙ omega arith)
+
+-- a product, as one term of a long sum
+pub diff-mul : (x : ℤ) (k : ℕ) → Diff (x *ℤ pos k) (above x * k) (below x * k)
+diff-mul x k = record { same = omega (arith, above-mul x k, below-mul x k) }
+
+-- the division toward zero, for a divisor that is not negative
+pub above-quot : (z : ℤ) (m : ℕ) → above (quotZ z (pos m)) ≡ above z / m
+above-quot (pos a) m = refl
+above-quot (negsuc a) m = above-neg (pos (suc a / m)) ∙ sym (zero-div m)

@@ -1,10 +1,10 @@
 -- Parts of a list, in the shape that the code's `&s[a..a + n]` gives them. Assumes nothing.
 use Prim.Native.Nat.{ℕ, _+_, _-_, _<_, _≤_}
 use native.Mathlib.Omega.{arith}
-use mathlib.Core.Path.{_≡_, sym, ap, _∙_}
-use mathlib.Core.List.{List}
-use lib.ListN.{length, getD, take, drop, length-take, length-drop}
-use lib.Seq.{getD-take, getD-drop}
+use mathlib.Core.Path.{_≡_, sym, ap, ap₂, _∙_}
+use mathlib.Core.List.{List, _++_, append-assoc, append-nil}
+use lib.ListN.{length, getD, take, drop, length-append, length-take, length-drop, drop-of-length-le}
+use lib.Seq.{getD-take, getD-drop, take-at, length-take-le}
 use Rattle.basis.specs.Lists.{tabulate}
 use Rattle.basis.proofs.Lists.{tabulate-cong, tabulate-same}
 
@@ -26,3 +26,24 @@ module _ {A : Type 0} (l : List A) (a n : ℕ) where
   part-tabulate f d h e =
       sym (tabulate-same n (take (a + n - a) (drop a l)) d (part-length h))
       ∙ tabulate-cong n (λ i. getD (take (a + n - a) (drop a l)) i d) f (λ i p. part-at i d p ∙ e i p)
+
+-- parts that are lent, and what comes back
+module _ {A : Type 0} where
+  -- a list whose first part is x lends the part after it, which comes back as y; then its rest, which comes back as z
+  pub put-after : (x l y : List A) (a e : ℕ) → length x ≡ a → a + length y ≡ e → take e (take a (x ++ l) ++ (y ++ drop (e - a) (drop a (x ++ l)))) ≡ x ++ y
+  put-after x l y a e h k =
+      ap (λ (t : List A). take e (t ++ (y ++ drop (e - a) (drop a (x ++ l))))) (take-at x l a h)
+      ∙ ap (take e) (sym (append-assoc x y (drop (e - a) (drop a (x ++ l)))))
+      ∙ take-at (x ++ y) (drop (e - a) (drop a (x ++ l))) e (length-append x y ∙ omega arith)
+
+  pub put-rest : (l x z : List A) (e : ℕ) → take e l ≡ x → take e l ++ (z ++ drop (length l - e) (drop e l)) ≡ x ++ z
+  put-rest l x z e h =
+      ap₂ (λ (p q : List A). p ++ (z ++ q)) h (drop-of-length-le (drop e l) {i = length l - e} (omega (arith, length-drop e l)))
+      ∙ ap (λ (q : List A). x ++ q) (append-nil z)
+
+  -- a list keeps its length where what comes back is as long as what was lent
+  pub put-length : (l y : List A) (a e : ℕ) → a + length y ≡ e → e ≤ length l → length (take a l ++ (y ++ drop (e - a) (drop a l))) ≡ length l
+  put-length l y a e h k =
+      let p : length (take a l) ≡ a = length-take-le a l (omega arith) in
+      let q : length (drop (e - a) (drop a l)) ≡ length l - a - (e - a) = length-drop (e - a) (drop a l) ∙ ap (λ (n : ℕ). n - (e - a)) (length-drop a l) in
+      length-append (take a l) (y ++ drop (e - a) (drop a l)) ∙ ap₂ (λ (m n : ℕ). m + n) p (length-append y (drop (e - a) (drop a l)) ∙ ap (λ (n : ℕ). length y + n) q) ∙ omega arith

@@ -3,7 +3,7 @@ use Prim.Native.Nat.{ℕ, _+_, _-_, _*_, _≤_, _<_}
 use native.Mathlib.Omega.{arith}
 use mathlib.Core.Bool.{Bool, true, _&&_, _||_}
 use mathlib.Core.List.{List}
-use mathlib.Core.Path.{_≡_, sym, ap, _∙_}
+use mathlib.Core.Path.{_≡_, ap, ap₂, _∙_}
 use lib.Dec.{ltb, eqb}
 use lib.IntN.{pos, negsuc}
 use lib.ListN.{length}
@@ -21,7 +21,7 @@ use Rattle.plane.specs.declared.Geometry.{Geometry}
 use Rattle.plane.specs.declared.Point.{Point}
 use Rattle.plane.specs.Plane.{planeOf}
 use Rattle.plane.specs.Held.{Held}
-use Rattle.plane.specs.Reference.{sized, referenceReply, originInRange, vectorInRange, motionReply, lengthReply, isSide, sideReply, blockReply, copyReply}
+use Rattle.plane.specs.Reference.{sized, referenceReply, originInRange, vectorInRange, motionReply, lengthReply, isSide, sideReply, blockReply, copyReply, sameReply}
 
 -- the sizes of a reference
 pub record Sized (g : Geometry) : Type 0 where
@@ -75,10 +75,28 @@ pub length-done : (area w h : ℕ) → area ≡ w * h → lengthReply area w h �
 unfolding lengthReply
 length-done area w h e = ap (λ (t : Bool). unless t Length Done) (eq-eqb area (w * h) e)
 
+pub same-done : (n area : ℕ) → n ≡ area → sameReply n area ≡ Done
+same-done n area e = ap (λ (t : Bool). unless t Length Done) (eq-eqb n area e)
+
 -- a copy of a reference that is usable, into an area that fits
 pub copy-done : (g : Geometry) (bytes w h area : ℕ) → referenceReply g bytes ≡ Done → area ≡ w * h → copyReply g bytes w h area ≡ Done
 unfolding copyReply
 copy-done g bytes w h area e f = ap (λ (r : Reply). andThen r (lengthReply area w h)) e ∙ length-done area w h f
+
+-- an interpolation whose parts are in range
+pub block-done : (g : Geometry) (bytes : ℕ) (v : MotionVector) (o : Point) (w h area : ℕ) → referenceReply g bytes ≡ Done → motionReply v o ≡ Done → area ≡ w * h
+    → isSide w ≡ true → isSide h ≡ true → blockReply g bytes v o w h area ≡ Done
+unfolding blockReply sideReply
+block-done g bytes v o w h area e f k p q =
+    ap (λ (r : Reply). andThen r (andThen (motionReply v o) (andThen (lengthReply area w h) (sideReply w h)))) e
+    ∙ ap (λ (r : Reply). andThen r (andThen (lengthReply area w h) (sideReply w h))) f
+    ∙ ap (λ (r : Reply). andThen r (sideReply w h)) (length-done area w h k)
+    ∙ ap₂ (λ (s t : Bool). unless (s && t) Choice Done) p q
+
+-- a motion that is not refused starts in range
+pub origin-ready : (v : MotionVector) (o : Point) → motionReply v o ≡ Done → originInRange o ≡ true
+unfolding motionReply
+origin-ready v o e = and-left (originInRange o) (vectorInRange v) (held (originInRange o && vectorInRange v) Place Done e)
 
 -- a block side is 8 or 16
 pub record Side (n : ℕ) : Type 0 where

@@ -57,6 +57,10 @@ blockReply g bytes v o w h area =
 unfoldable pub copyReply : Geometry → ℕ → ℕ → ℕ → ℕ → Reply
 copyReply g bytes w h area = andThen (referenceReply g bytes) (lengthReply area w h)
 
+-- 12: an area that is not n long
+abbrev pub sameReply : ℕ → ℕ → Reply
+sameReply n area = unless (eqb n area) Length Done
+
 -- a sample, or why there is none
 abbrev pub sampleOr : Reply → ℕ → Fetched
 sampleOr Done v = Sample v

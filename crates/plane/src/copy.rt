@@ -17,7 +17,7 @@ pub fn sample(samples: &[u8], geometry: Geometry, x: i32, y: i32) -> u8
     samples[row * geometry.stride + column]
 }
 
-fn copy_straight(from: &[u8], out: &mut [u8])
+pub fn copy_straight(from: &[u8], out: &mut [u8])
     requires { ⌜ length (now from) ≡ length (now out) ⌝ }
     ensures { λ _. ⌜ now (out .exit) ≡ now (from .entry) ⌝ }
 {

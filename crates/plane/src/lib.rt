@@ -6,7 +6,7 @@ ghost use lib.IntN.{pos, _+ℤ_};
 ghost use lib.ListN.{length};
 ghost use Rattle.refusal.specs.Reply.{done};
 ghost use Rattle.plane.specs.Plane.{planeOf, clampTo, copiedBlock};
-ghost use Rattle.plane.specs.Reference.{originInRange, vectorInRange, isSide, referenceReply, motionReply, lengthReply, sideReply, blockReply, copyReply, fetched};
+ghost use Rattle.plane.specs.Reference.{originInRange, vectorInRange, isSide, referenceReply, motionReply, lengthReply, sideReply, blockReply, copyReply, sameReply, fetched};
 use record::MotionVector;
 use refusal::Refusal;
 use refusal::Reply;
@@ -178,6 +178,18 @@ pub fn fetch_clamped(samples: &[u8], geometry: Geometry, x: i32, y: i32) -> Fetc
         Reply::Refused(why) => Fetched::Refused(why),
         Reply::Done => Fetched::Sample(copy::sample(samples, geometry, x, y)),
     }
+}
+
+// The samples as they are: 12 where the area is not as long.
+pub fn copy_samples(from: &[u8], out: &mut [u8]) -> Reply
+    ensures { λ r. ⌜ r ≡ sameReply (length (now (from .entry))) (length (now (out .entry))) ⌝ }
+    ensures { λ r. ⌜ now (out .exit) ≡ done r (now (from .entry)) (now (out .entry)) ⌝ }
+{
+    if from.len() != out.len() {
+        return Reply::Refused(Refusal::Length);
+    }
+    copy::copy_straight(from, out);
+    Reply::Done
 }
 
 // The block of w columns and h rows from a point on, row by row: 4, 5, 12.

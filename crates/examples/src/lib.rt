@@ -1,0 +1,1 @@
+// No code: document 01's starred examples, one table under one theorem about the definitions.

@@ -1,0 +1,53 @@
+-- `prediction::blocks::predict_block` meets its contract. Assumes nothing.
+use mathlib.Core.Path.{ap, ap₂, _∙_}
+use Prim.Native.Nat.{ℕ}
+use lib.ListN.{length, getD}
+use Rattle.refusal.specs.declared.Reply.{Reply}
+use Rattle.refusal.specs.Reply.{done}
+use Rattle.record.specs.Zero.{zeroVector}
+use Rattle.plane.specs.declared.Point.{Point}
+use Rattle.plane.specs.Plane.{planeOf}
+use Rattle.prediction.specs.Luma.{lumaBlock, lumaReply}
+use borrow.Author.Needs.{needs}
+use Rattle.prediction.proofs.blocks.predict_block.Statement.{statement}
+use Rattle.prediction.proofs.blocks.predict_block.Tie as tie
+
+mul-v : tie.Need-mul-v
+mul-v c = search needs
+
+array-copy-out-v : tie.Need-array-copy-out-v
+array-copy-out-v c = search needs
+
+block-origin-requires : tie.Need-block-origin-requires
+block-origin-requires c κs = search needs
+
+predict-luma-block-requires : tie.Need-predict-luma-block-requires
+predict-luma-block-requires c κs = search needs
+
+same-length : tie.Need-same-length
+same-length c = search needs
+
+returns : tie.Need-returns
+returns c =
+    let f = c .before .before in
+    let b = f .before .before in
+    let s = b .before .before .before .before in
+    let a = s .args in
+    let v = getD (a .t4) (a .k) zeroVector in
+    let e = b .block-origin .ensures in
+    f .predict-luma-block .ensures .1
+    ∙ ap (λ (r : Reply). done r (lumaBlock (a .mode) (planeOf (a .samples .now) (a .geometry)) v (b .block-origin .result) 8 8 (a .rounding)) (a .out .now))
+    (f .predict-luma-block .ensures .0
+    ∙ ap₂ (λ (o : Point) (n : ℕ). lumaReply (a .mode) (a .geometry) (length (a .samples .now)) v o 8 8 n) e (s .pre .2) ∙ s .pre .0 .each (a .k) (s .pre .1))
+    ∙ ap (λ (o : Point). lumaBlock (a .mode) (planeOf (a .samples .now) (a .geometry)) v o 8 8 (a .rounding)) e
+
+pub predict-block-spec : {M : Type 1} → statement M
+predict-block-spec =
+    tie.close
+    (tie.spec
+    mul-v
+    array-copy-out-v
+    block-origin-requires
+    predict-luma-block-requires
+    same-length
+    returns)

@@ -1,0 +1,5 @@
+pub mod Split
+pub mod Filter
+pub mod Places
+pub mod Block
+pub mod Passes

@@ -1,0 +1,168 @@
+// Quarter-sample interpolation of luma blocks (ISO/IEC 14496-2, 7.6.2.2).
+ghost use mathlib.Core.Path.{_≡_};
+ghost use mathlib.Core.Bool.{true};
+ghost use Prim.Native.Nat.{_+_, _*_, _≤_};
+ghost use lib.IntN.{pos, negsuc};
+ghost use lib.ListN.{length};
+ghost use Rattle.refusal.specs.Reply.{done};
+ghost use Rattle.refusal.specs.Test.{inRange};
+ghost use Rattle.plane.specs.Plane.{planeOf};
+ghost use Rattle.plane.specs.Reference.{blockReply};
+ghost use Rattle.quarter_sample.specs.Block.{quarterBlock, quarterReply};
+ghost use Rattle.quarter_sample.specs.Passes.{startOf};
+ghost use Rattle.quarter_sample.specs.Split.{splitQuarter};
+use plane::Geometry;
+use plane::Point;
+use record::MotionVector;
+use refusal::Refusal;
+use refusal::Reply;
+
+mod filter;
+mod passes;
+
+// A vector component: whole samples, and 0 to 3 quarters.
+pub struct QuarterPel {
+    pub whole: i32,
+    pub fraction: u8,
+}
+
+// The arithmetic shift rounds down, so that the fraction is never negative.
+pub fn split_quarter_pel(mv: i32) -> QuarterPel
+    ensures { λ r. ⌜ r ≡ splitQuarter mv ⌝ }
+{
+    QuarterPel {
+        whole: mv >> 2,
+        fraction: (mv & 3) as u8,
+    }
+}
+
+// Where the copied block starts, and which of the sixteen places within it.
+struct Start {
+    at: Point,
+    fractions: u8,
+}
+
+fn start_of(vector: MotionVector, origin: Point) -> Start
+    requires { ⌜ (inRange (negsuc 4095) (pos 4096) (origin .x) ≡ true) × (inRange (negsuc 4095) (pos 4096) (origin .y) ≡ true) ⌝ }
+    requires { ⌜ (inRange (negsuc 2047) (pos 2047) (vector .x) ≡ true) × (inRange (negsuc 2047) (pos 2047) (vector .y) ≡ true) ⌝ }
+    ensures { λ r. ⌜ r ≡ startOf vector origin ⌝ }
+{
+    let across = split_quarter_pel(vector.x);
+    let down = split_quarter_pel(vector.y);
+    let at = Point {
+        x: origin.x + across.whole,
+        y: origin.y + down.whole,
+    };
+    Start {
+        at,
+        fractions: across.fraction + 4 * down.fraction,
+    }
+}
+
+// A block that nothing turns back, by way of a copy in the buffer.
+fn interpolate_within(
+    samples: &[u8],
+    geometry: Geometry,
+    vector: MotionVector,
+    origin: Point,
+    block_w: usize,
+    block_h: usize,
+    rounding: u8,
+    bits_per_pixel: u32,
+    buffer: &mut [u8],
+    out: &mut [u8],
+)
+    requires { ⌜ (1 ≤ «bits_per_pixel») × («bits_per_pixel» ≤ 8) × (blockReply geometry (length (now samples)) vector origin «block_w» «block_h» (length (now out)) ≡ Reply.Done) × (length (now buffer) ≡ («block_w» + 1) * («block_h» + 1)) ⌝ }
+    ensures { λ _. ⌜ now (out .exit) ≡ quarterBlock (planeOf (now (samples .entry)) geometry) vector origin «block_w» «block_h» rounding «bits_per_pixel» ⌝ }
+{
+    let start = start_of(vector, origin);
+    let at = start.at;
+    plane::copy_block(samples, geometry, at, block_w + 1, block_h + 1, buffer);
+    passes::interpolate_place(
+        buffer,
+        block_w,
+        block_h,
+        start.fractions,
+        rounding % 2,
+        filter::largest_sample(bits_per_pixel),
+        out,
+    );
+}
+
+fn interpolate(
+    samples: &[u8],
+    geometry: Geometry,
+    vector: MotionVector,
+    origin: Point,
+    block_w: usize,
+    block_h: usize,
+    rounding: u8,
+    bits_per_pixel: u32,
+    out: &mut [u8],
+)
+    requires { ⌜ (1 ≤ «bits_per_pixel») × («bits_per_pixel» ≤ 8) × (blockReply geometry (length (now samples)) vector origin «block_w» «block_h» (length (now out)) ≡ Reply.Done) ⌝ }
+    ensures { λ _. ⌜ now (out .exit) ≡ quarterBlock (planeOf (now (samples .entry)) geometry) vector origin «block_w» «block_h» rounding «bits_per_pixel» ⌝ }
+{
+    let mut block = [0u8; 289];
+    let count = (block_w + 1) * (block_h + 1);
+    interpolate_within(
+        samples,
+        geometry,
+        vector,
+        origin,
+        block_w,
+        block_h,
+        rounding,
+        bits_per_pixel,
+        &mut block[..count],
+        out,
+    );
+}
+
+// The prediction of a block at an origin, by a vector in quarter samples: 3, 4, 5, 8, 12, 14.
+pub fn interpolate_block_qpel_into(
+    samples: &[u8],
+    geometry: Geometry,
+    vector: MotionVector,
+    origin: Point,
+    block_w: usize,
+    block_h: usize,
+    rounding: u8,
+    bits_per_pixel: u32,
+    out: &mut [u8],
+) -> Reply
+    ensures { λ r. ⌜ r ≡ quarterReply «bits_per_pixel» geometry (length (now (samples .entry))) vector origin «block_w» «block_h» (length (now (out .entry))) ⌝ }
+    ensures { λ r. ⌜ now (out .exit) ≡ done r (quarterBlock (planeOf (now (samples .entry)) geometry) vector origin «block_w» «block_h» rounding «bits_per_pixel») (now (out .entry)) ⌝ }
+{
+    let block = plane::block_reply(
+        geometry,
+        samples.len(),
+        vector,
+        origin,
+        block_w,
+        block_h,
+        out.len(),
+    );
+    let reply = refusal::unless(
+        refusal::between(1, 8, bits_per_pixel as usize),
+        Refusal::BitsPerPixel,
+        block,
+    );
+    match reply {
+        Reply::Refused(why) => Reply::Refused(why),
+        Reply::Done => {
+            interpolate(
+                samples,
+                geometry,
+                vector,
+                origin,
+                block_w,
+                block_h,
+                rounding,
+                bits_per_pixel,
+                out,
+            );
+            Reply::Done
+        }
+    }
+}
