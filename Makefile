@@ -9,7 +9,7 @@ LIBDIR := target/staticlib
 
 LIBRARY := $(LIBDIR)/libhencouch.a
 SOURCES := $(wildcard crates.txt) $(shell find crates -path '*/src/*' -name '*.rt' 2>/dev/null)
-ORIGINALS := half_sample.rs quarter_sample.rs
+ORIGINALS := half_sample.rs quarter_sample.rs fdct.rs inverse_quant.rs
 RUST := rustc --edition 2021 -C opt-level=3 -C codegen-units=1 -L native=$(LIBDIR)
 
 .PHONY: help test staticlib compare bench call originals

@@ -1,4 +1,4 @@
-/* Sample prediction for MPEG-4 Visual (ISO/IEC 14496-2), 7.6.2: the static library libhencouch.a. */
+/* Parts of an MPEG-4 Visual coder (ISO/IEC 14496-2): the static library libhencouch.a. */
 #ifndef HENCOUCH_H
 #define HENCOUCH_H
 
@@ -46,6 +46,61 @@ uint8_t hencouch_interpolate_block_qpel_into(
     int32_t mv_x, int32_t mv_y, int32_t origin_x, int32_t origin_y,
     size_t block_w, size_t block_h, uint8_t rounding, uint32_t bits_per_pixel,
     uint8_t *out, size_t out_len);
+
+/*
+ * The 8 x 8 forward transform of 64 residuals, eight to a row, at 8 bits: doubles, rows, then
+ * columns; coefficients rounded to nearest, halves away from zero, cut to -2048..2047.
+ *
+ * Returns 0, or the first number that applies:
+ *   12  residual_len or out_len not 64
+ *   13  a residual outside -255..255
+ */
+uint8_t hencouch_forward_dct_8x8(
+    const int32_t *residual, size_t residual_len, int32_t *out, size_t out_len);
+
+/*
+ * The levels of 64 transform coefficients: by the second method, or by the first where
+ * first_method is not 0. weights is the matrix of the first method; its length counts under both.
+ *
+ * Returns 0, or the first number that applies:
+ *   10  quantiser not 1..31
+ *   11  first method, a zero weight
+ *   12  coefficients_len, weights_len or out_len not 64
+ *   13  a coefficient outside -2048..2047
+ */
+uint8_t hencouch_quantise_block(
+    const int32_t *coefficients, size_t coefficients_len, uint32_t quantiser, uint8_t first_method,
+    const uint8_t *weights, size_t weights_len, int32_t *out, size_t out_len);
+
+/*
+ * What 64 levels stand for under the second method.
+ *
+ * Returns 0, or 10, 12 (levels_len or out_len not 64), 13 (a level outside -2047..2047).
+ */
+uint8_t hencouch_inverse_block(
+    const int32_t *levels, size_t levels_len, uint32_t quantiser, int32_t *out, size_t out_len);
+
+/*
+ * 64 levels, eight to a row, put into scan order, and back. scan: 0 alternate horizontal,
+ * 1 alternate vertical, 2 zigzag.
+ *
+ * Each returns 0, or 12 (levels_len or out_len not 64), 13 (a level outside -2047..2047),
+ * 14 (scan not 0..2).
+ */
+uint8_t hencouch_forward_scan(
+    const int32_t *levels, size_t levels_len, uint32_t scan, int32_t *out, size_t out_len);
+uint8_t hencouch_inverse_scan(
+    const int32_t *levels, size_t levels_len, uint32_t scan, int32_t *out, size_t out_len);
+
+/*
+ * The events of 64 levels in scan order: lasts 1 for the last event and 0 for any other, runs of
+ * zeros, non-zero levels, each area 64 long and 0 after the events. Their number goes to *count.
+ *
+ * Returns 0, or 12 (a length not 64), 13 (a level outside -2047..2047); then *count stays as it is.
+ */
+uint8_t hencouch_levels_to_events(
+    const int32_t *levels, size_t levels_len, uint8_t *lasts, size_t lasts_len,
+    uint8_t *runs, size_t runs_len, int32_t *out_levels, size_t out_levels_len, uint8_t *count);
 
 #ifdef __cplusplus
 }

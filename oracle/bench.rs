@@ -1,17 +1,28 @@
 //! Times the static library against the Rust that it was ported from, both built for release, in
-//! one run. `half_sample` and `quarter_sample` are the originals, unchanged; they are laid beside
-//! this file before it is compiled. A function group is one module with `bench()`.
+//! one run. The originals, as `half_sample` and `fdct`, are unchanged; they are laid beside this file
+//! before it is compiled. A function group is one module with `bench()`.
 
 #[allow(dead_code)]
+mod fdct;
+#[allow(dead_code)]
 mod half_sample;
+#[path = "cos_table.rs"]
+mod idct;
+#[allow(dead_code)]
+mod inverse_quant;
 mod library;
+mod library_transform;
+mod predictor;
 #[allow(dead_code)]
 mod quarter_sample;
 #[allow(dead_code)]
 mod random;
 mod sample_bench;
+mod texture;
 mod timing;
+mod transform_bench;
 
 fn main() {
     sample_bench::bench();
+    transform_bench::bench();
 }

@@ -1,20 +1,30 @@
 //! Compares the static library with the Rust that it was ported from, on random valid and damaged
-//! calls. `half_sample` and `quarter_sample` are the originals, unchanged; they are laid beside
-//! this file before it is compiled.
+//! calls. The originals, as `half_sample` and `fdct`, are unchanged; they are laid beside this file
+//! before it is compiled.
 //!
 //! A function group is one module with `compare(&Options) -> Result<Summary, String>`; the error
 //! text is the first call that differs, with its whole input.
 
+#[allow(dead_code)]
+mod fdct;
 mod guard;
 #[allow(dead_code)]
 mod half_sample;
+#[path = "cos_table.rs"]
+mod idct;
+#[allow(dead_code)]
+mod inverse_quant;
 mod library;
+mod library_transform;
 mod options;
+mod predictor;
 #[allow(dead_code)]
 mod quarter_sample;
 mod random;
 mod sample;
 mod summary;
+mod texture;
+mod transform;
 
 use options::Options;
 use std::process::exit;
@@ -27,7 +37,7 @@ fn main() {
     });
     println!("seed {}", options.seed);
     let mut groups = Vec::new();
-    for compare in [sample::compare] {
+    for compare in [sample::compare, transform::compare] {
         match compare(&options) {
             Ok(summary) => groups.push(summary),
             Err(text) => {

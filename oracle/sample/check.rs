@@ -2,14 +2,14 @@
 //! compared; the error is the text of the first difference, with the whole input.
 
 use super::call::Call;
-use crate::guard::LentArea;
+use crate::guard::Lent;
 
 /// Planes up to this length are printed whole.
 const WHOLE: usize = 1 << 15;
 
 /// Holds the library to `reply`: 0 with the original's block, or a refusal with nothing written.
 pub fn check(call: &Call, reply: u8, salt: u8) -> Result<(), String> {
-    let mut lent = LentArea::new(call.out_len, salt);
+    let mut lent = Lent::<u8>::new(call.out_len, salt);
     let got = call.ask_library(lent.area());
     let found = if got != reply {
         format!("reply {got}, wanted {reply}")

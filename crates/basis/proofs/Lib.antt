@@ -1,3 +1,4 @@
+pub mod Areas
 pub mod Bits
 pub mod Bounds
 pub mod Case

@@ -5,7 +5,7 @@ use native.Mathlib.Decide.{decLt}
 use native.Mathlib.Omega.{arith}
 use mathlib.Core.Path.{_≡_, refl, sym, ap, ap₂, _∙_}
 use mathlib.Core.List.{List, [], _∷_, _++_, append-assoc, append-nil}
-use lib.ListN.{length, getD, take, drop, set, length-append, length-drop, drop-of-length-le, List·getD-append}
+use lib.ListN.{length, getD, take, drop, set, length-append, length-drop, drop-of-length-le, List·getD-append, replicate, replicate-append-replicate}
 use Rattle.basis.specs.Lists.{tabulate, rows, raster}
 use lib.Seq.{getD-at, set-at, take-at, drop-at, drop-cons, append-snoc, drop-drop, take-append-le, drop-append-le, take-all, getD-take, getD-drop, ext-getD}
 
@@ -46,6 +46,14 @@ module _ {A : Type 0} where
       ∙ append-assoc (tabulate a f) (tabulate b (λ k. f (a + k))) (f (a + b) ∷ [])
     where
       next : a + suc b ≡ suc (a + b)
+      next = omega arith
+
+  pub tabulate-const : (n : ℕ) (v : A) → tabulate n (λ _. v) ≡ replicate n v
+  unfolding tabulate
+  tabulate-const zero v = refl
+  tabulate-const (suc n) v = ap (λ (l : List A). l ++ (v ∷ [])) (tabulate-const n v) ∙ replicate-append-replicate n 1 v ∙ ap (λ (m : ℕ). replicate m v) next
+    where
+      next : n + 1 ≡ suc n
       next = omega arith
 
   -- a list is made of its elements

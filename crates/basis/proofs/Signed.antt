@@ -1,17 +1,17 @@
 -- A signed local holds bits, so each test and cast of it speaks of what the machine reads back from them, `toZ w (ofZ w z)`.
 -- These laws take such a fact to the number's two parts, which `omega` reads. A literal's bits are `ofZ w` of it by computation.
 -- Assumes nothing.
-use Prim.Native.Nat.{ℕ, _+_, _<_, _≤_}
+use Prim.Native.Nat.{ℕ, zero, suc, _+_, _<_, _≤_}
 use native.Mathlib.Omega.{arith}
 use mathlib.Core.Bool.{Bool, true, false}
 use mathlib.Core.Path.{_≡_, sym, ap, ap₂, _∙_, subst}
 use lib.Dec.{T}
-use lib.IntN.{ℤ, natAbs, _+ℤ_}
+use lib.IntN.{ℤ, pos, natAbs, negℤ, _+ℤ_, _-ℤ_, +ℤ-idl}
 use lib.Signed.{ltZ, leZ, nonNeg}
 use mir.Syntax.{Width}
 use mir.Val.{SFits, Fits, toZ, ofZ, bits, hbits}
-use mir.ValLaws.{toZ-ofZ}
-use mir.Facts.{fits-natAbs}
+use mir.ValLaws.{toZ-ofZ, toZ-pos}
+use mir.Facts.{fits-natAbs, sfits-lit}
 use lib.Signed.{mag}
 use mir.Syntax.{w32}
 use Prim.Native.Nat.{_^_}
@@ -66,3 +66,18 @@ cast-value w z f e = ap natAbs (toZ-ofZ w z f) ∙ natAbs-above z e
 -- a signed field of a struct, whose range a proof is given as a bound on its size
 pub of-bits : (z : ℤ) → mag z < 2 ^ 31 → toZ w32 (ofZ w32 z) ≡ z
 of-bits z h = toZ-ofZ w32 z (record { sfits = h })
+
+-- the negative of a number at 32 bits, as the code's `0 - n` gives it
+module _ (n : ℕ) (h : n < 2 ^ 31) where
+  negative-is : pos 0 -ℤ toZ w32 n ≡ negℤ (pos n)
+  negative-is = ap (λ (z : ℤ). pos 0 -ℤ z) (toZ-pos w32 n h) ∙ +ℤ-idl (negℤ (pos n))
+
+  pub negative-fits : SFits w32 (pos 0 -ℤ toZ w32 n)
+  negative-fits = subst (SFits w32) (sym negative-is) (fits n h)
+    where
+      fits : (n : ℕ) → n < 2 ^ 31 → SFits w32 (negℤ (pos n))
+      fits zero h = sfits-lit tt
+      fits (suc n) h = record { sfits = omega arith }
+
+  pub negative-read : toZ w32 (ofZ w32 (pos 0 -ℤ toZ w32 n)) ≡ negℤ (pos n)
+  negative-read = toZ-ofZ w32 (pos 0 -ℤ toZ w32 n) negative-fits ∙ negative-is

@@ -4,6 +4,7 @@ use mathlib.Core.Bool.{Bool, true, false, not, _&&_}
 use mathlib.Core.List.{List, [], _∷_}
 use lib.Dec.{eqb}
 use lib.IntN.{ℤ, pos, negsuc}
+use lib.ListN.{length, getD, set, replicate}
 use lib.Signed.{leZ}
 use Rattle.half_sample.specs.declared.HalfPel.{HalfPel}
 use Rattle.half_sample.specs.Split.{splitHalf}
@@ -11,6 +12,9 @@ use Rattle.half_sample.specs.Average.{average2Of, average4Of}
 use Rattle.quarter_sample.specs.declared.QuarterPel.{QuarterPel}
 use Rattle.quarter_sample.specs.Split.{splitQuarter}
 use Rattle.quarter_sample.specs.Filter.{mirror, fir, largest}
+use Rattle.quantise.specs.Level.{levelOf, levelByWeight, inverseOf}
+use Rattle.scan.specs.Event.{eventsOf, lastsArea, runsArea, levelsArea}
+use Rattle.scan.specs.Grid.{gridOf, scanned}
 
 abbrev pub equalZ : ℤ → ℤ → Bool
 equalZ a b = leZ a b && leZ b a
@@ -56,10 +60,44 @@ taps =
 unfoldable pub reflections : List Bool
 reflections = eqb (mirror 9 (negsuc 2)) 2 ∷ eqb (mirror 9 (pos 9)) 8 ∷ eqb (mirror 9 (pos 11)) 6 ∷ []
 
+unfoldable pub levels : List Bool
+levels =
+    -- q 5: 11 gives 0, 12 gives 1, -12 gives -1, 22 gives 2
+    equalZ (levelOf 5 (pos 11)) (pos 0)
+    ∷ equalZ (levelOf 5 (pos 12)) (pos 1)
+    ∷ equalZ (levelOf 5 (negsuc 11)) (negsuc 0)
+    ∷ equalZ (levelOf 5 (pos 22)) (pos 2)
+    -- level 1 returns 15 at q 5, and 11 at q 4
+    ∷ equalZ (inverseOf 5 (pos 1)) (pos 15)
+    ∷ equalZ (inverseOf 4 (pos 1)) (pos 11)
+    -- w 16, q 1: 2 gives 0, 3 gives 1; w 1, q 1: 300 gives 2,047
+    ∷ equalZ (levelByWeight 16 1 (pos 2)) (pos 0)
+    ∷ equalZ (levelByWeight 16 1 (pos 3)) (pos 1)
+    ∷ equalZ (levelByWeight 1 1 (pos 300)) (pos 2047)
+    ∷ []
+
+-- the zigzag scan of a block with 3 at row 0, column 0 and -1 at row 1, column 1, which are scan places 0 and 4
+unfoldable pub scannedLevels : List ℤ
+scannedLevels = scanned (gridOf 2) (set (set (replicate 64 (pos 0)) 0 (pos 3)) 9 (negsuc 0))
+
+-- its events: (no, 0, 3), (yes, 3, -1)
+unfoldable pub events : List Bool
+events =
+    equalZ (getD scannedLevels 0 (pos 0)) (pos 3)
+    ∷ equalZ (getD scannedLevels 4 (pos 0)) (negsuc 0)
+    ∷ eqb (length (eventsOf scannedLevels)) 2
+    ∷ eqb (getD (lastsArea scannedLevels) 0 9) 0
+    ∷ eqb (getD (runsArea scannedLevels) 0 9) 0
+    ∷ equalZ (getD (levelsArea scannedLevels) 0 (pos 9)) (pos 3)
+    ∷ eqb (getD (lastsArea scannedLevels) 1 9) 1
+    ∷ eqb (getD (runsArea scannedLevels) 1 9) 3
+    ∷ equalZ (getD (levelsArea scannedLevels) 1 (pos 9)) (negsuc 0)
+    ∷ []
+
 abbrev pub hold : List Bool → Bool
 hold [] = true
 hold (t ∷ ts) = t && hold ts
 
 -- all of it
 unfoldable pub starred : Bool
-starred = hold splits && hold averages && hold taps && hold reflections
+starred = hold splits && hold averages && hold taps && hold reflections && hold levels && hold events

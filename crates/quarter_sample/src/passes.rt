@@ -20,9 +20,7 @@ fn copy_straight(from: &[u8], out: &mut [u8])
     requires { ⌜ length (now from) ≡ length (now out) ⌝ }
     ensures { λ _. ⌜ now (out .exit) ≡ now (from .entry) ⌝ }
 {
-    for i in 0..out.len() {
-        out[i] = from[i];
-    }
+    plane::copy_samples(from, out);
 }
 
 // What a row's indices from first - 3 on read.

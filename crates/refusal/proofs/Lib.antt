@@ -1,3 +1,4 @@
+pub mod Every
 pub mod Product
 pub mod Replies
 pub mod Tests

@@ -5,7 +5,7 @@ ghost use Prim.Native.Nat.{_*_};
 ghost use lib.Dec.{eqb};
 ghost use Rattle.refusal.specs.Number.{numberOf, codeOf};
 ghost use Rattle.refusal.specs.Reply.{unless, andThen};
-ghost use Rattle.refusal.specs.Test.{between, inRange};
+ghost use Rattle.refusal.specs.Test.{between, inRange, allInRange};
 
 // In the order of the lists: 1 to 14 because of the input, 21 to 23 because of the run.
 pub enum Refusal {
@@ -110,6 +110,16 @@ pub fn in_range(low: i32, high: i32, x: i32) -> bool
     ensures { λ r. ⌜ r ≡ inRange low high x ⌝ }
 {
     if low <= x { x <= high } else { false }
+}
+
+pub fn all_in_range(low: i32, high: i32, xs: &[i32]) -> bool
+    ensures { λ r. ⌜ r ≡ allInRange low high (now (xs .entry)) ⌝ }
+{
+    let mut good = true;
+    for i in 0..xs.len() {
+        good = both(good, in_range(low, high, xs[i]));
+    }
+    good
 }
 
 // Whether n is w times h, for any numbers: the product itself may not fit.

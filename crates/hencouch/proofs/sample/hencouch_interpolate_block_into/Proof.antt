@@ -1,4 +1,4 @@
--- `hencouch::hencouch_interpolate_block_into` meets its contract. Assumes nothing.
+-- `hencouch::sample::hencouch_interpolate_block_into` meets its contract. Assumes nothing.
 use mathlib.Core.Path.{_≡_, ap, ap₂, _∙_}
 use lib.IntN.{ℤ}
 use lib.ListN.{length}
@@ -17,8 +17,8 @@ use Rattle.plane.specs.Reference.{blockReply}
 use Rattle.half_sample.specs.Block.{halfBlock}
 use Rattle.hencouch.specs.Numbers.{geometryOf, vectorOf, pointOf}
 use borrow.Author.Needs.{needs}
-use Rattle.hencouch.proofs.hencouch_interpolate_block_into.Statement.{statement}
-use Rattle.hencouch.proofs.hencouch_interpolate_block_into.Tie as tie
+use Rattle.hencouch.proofs.sample.hencouch_interpolate_block_into.Statement.{statement}
+use Rattle.hencouch.proofs.sample.hencouch_interpolate_block_into.Tie as tie
 
 -- the reply and the block, for a vector and an origin
 abbrev replyFor : tie.Start → MotionVector → Point → Reply

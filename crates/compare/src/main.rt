@@ -1,0 +1,35 @@
+// Worked examples that are run and not proved: document 01's without a star, each with what it should give.
+use libc::STDOUT_FILENO;
+
+// Whether every coefficient from place k on is 0.
+fn zeros_from(coefficients: &[i32], from: usize) -> bool {
+    let mut all = true;
+    for i in 0..coefficients.len() {
+        all = refusal::both(
+            all,
+            refusal::either(i < from, refusal::in_range(0, 0, coefficients[i])),
+        );
+    }
+    all
+}
+
+// Residual all 1: first coefficient 8, others 0.
+fn all_ones() -> bool {
+    let residual = [1i32; 64];
+    let mut out = [0i32; 64];
+    fdct::forward_dct_8x8(&residual, &mut out);
+    refusal::both(out[0] == 8, zeros_from(&out, 1))
+}
+
+fn report(right: bool, name: &[u8]) {
+    io::write_all(STDOUT_FILENO, name);
+    if right {
+        io::write_all(STDOUT_FILENO, b": as it should be\n");
+    } else {
+        io::write_all(STDOUT_FILENO, b": WRONG\n");
+    }
+}
+
+fn main() {
+    report(all_ones(), b"residual all 1, first coefficient 8, others 0");
+}

@@ -1,0 +1,6 @@
+-- Laws that several proofs cite.
+mod Halves
+mod Lengths
+mod Lines
+mod Signs
+mod Whole

@@ -1,0 +1,117 @@
+-- What the tests of a double against 0, 4096 and itself tell of its magnitude and its coefficient. Assumes nothing.
+use mathlib.Core.Path.{_≡_, refl, sym, ap, _∙_, subst}
+use mathlib.Core.Logic.{inl, inr}
+use mathlib.Core.Bool.{Bool, true, false, cond, not, _&&_, _||_, true≢false}
+use Prim.Native.Nat.{ℕ, _+_, _*_, _<_, _≤_, min}
+use native.Mathlib.Nat.{le-refl, eq-or-lt-of-le, le-div-iff-mul-le, div-eq-of-lt}
+use native.Mathlib.Omega.{arith}
+use borrow.Author.Tests.{ltb-true, ltb-false, lt-ltb, le-ltb, eq-eqb}
+use lib.Dec.{T, ltb, eqb}
+use lib.IntN.{pos, negℤ}
+use lib.Ieee.{Float, nan, inf, fin, up, down, lt, le, eq, ne, neg}
+use lib.Ieee.Fits.{down-pos}
+use lib.Ieee.Compare.{differs-from-itself}
+use Rattle.fdct.specs.Double.{zeroDouble}
+use Rattle.fdct.specs.Rounding.{nearestUp, magnitude, clamped, coefficientOf}
+
+-- 4096
+abbrev pub top : Float
+top = fin false 1 (pos 12)
+
+-- x without its sign, as the code has it
+abbrev pub sized : Float → Float
+sized x = cond (lt x zeroDouble) (neg x) x
+
+none : (n d : ℕ) → 0 < d → n ≡ 0 → nearestUp n d ≡ 0
+none n d D z = div-eq-of-lt (omega arith)
+
+large : (n d : ℕ) → 0 < d → 4096 * d ≤ n → 4096 ≤ nearestUp n d
+large n d D h = le-div-iff-mul-le {k = 2 * d} {x = 4096} {y = 2 * n + d} (omega arith) .1 (omega arith)
+
+split : (a b : ℕ) → a ≤ b → (ltb a b || (eqb a b && true)) ≡ true
+split a b h = elim (eq-or-lt-of-le h) [
+  | inl p ↦ subst (λ (z : ℕ). (ltb a z || (eqb a z && true)) ≡ true) p (simp (le-ltb a a (le-refl a), eq-eqb a a refl))
+  | inr q ↦ simp (lt-ltb a b q)
+]
+
+-- ---- the sign
+same-magnitude : (x : Float) → magnitude (neg x) ≡ magnitude x
+unfolding neg magnitude
+same-magnitude nan = refl
+same-magnitude (inf s) = refl
+same-magnitude (fin s m e) = refl
+
+pub sized-magnitude : (x : Float) → magnitude (sized x) ≡ magnitude x
+sized-magnitude x = go (lt x zeroDouble)
+  where
+    go : (b : Bool) → magnitude (cond b (neg x) x) ≡ magnitude x
+    go true = same-magnitude x
+    go false = refl
+
+turned : (x : Float) → lt x zeroDouble ≡ true → le zeroDouble (neg x) ≡ true
+unfolding neg le
+turned nan t = absurd (true≢false (sym t))
+turned (inf true) t = refl
+turned (inf false) t = absurd (true≢false (sym t))
+turned (fin true m e) t = split (0 * down e) (m * up e * 1) (omega arith)
+turned (fin false m e) t = let k = ltb-true (m * up e * 1) (0 * down e) t in absurd (omega arith)
+
+-- not below zero: a zero with a minus sign counts so
+kept : (x : Float) → lt x zeroDouble ≡ false → lt x top ≡ true → le zeroDouble x ≡ true
+unfolding le lt
+kept nan t h = absurd (true≢false (sym h))
+kept (inf true) t h = absurd (true≢false t)
+kept (inf false) t h = refl
+kept (fin true m e) t h = let k = ltb-false 0 (m * up e * 1 + 0 * down e) t in simp (eq-eqb (0 * down e) (m * up e * 1) (omega arith), eq-eqb (0 * down e) 0 (omega arith))
+kept (fin false m e) t h = split (0 * down e) (m * up e * 1) (omega arith)
+
+pub sized-up : (x : Float) → lt (sized x) top ≡ true → le zeroDouble (sized x) ≡ true
+sized-up x = go (lt x zeroDouble) refl
+  where
+    go : (b : Bool) → lt x zeroDouble ≡ b → lt (cond b (neg x) x) top ≡ true → le zeroDouble (cond b (neg x) x) ≡ true
+    go true t h = turned x t
+    go false t h = kept x t h
+
+-- ---- past the range, and a NaN
+pub past-top : (x : Float) → eq x x ≡ true → lt (sized x) top ≡ false → 4096 ≤ magnitude x
+unfolding magnitude eq neg lt
+past-top nan t h = absurd (true≢false (sym t))
+past-top (inf s) t h = le-refl 4096
+past-top (fin s m e) t h = go s (lt (fin s m e) zeroDouble) h
+  where
+    go : (s b : Bool) → lt (cond b (fin (not s) m e) (fin s m e)) top ≡ false → 4096 ≤ nearestUp (m * up e) (down e)
+    go true true h = let k = ltb-false (m * up e * 1) (4096 * down e) h in large (m * up e) (down e) (down-pos e) (omega arith)
+    go true false h = let D = down-pos e in let k = ltb-false 0 (m * up e * 1 + 4096 * down e) h in absurd (omega arith)
+    go false true h = let D = down-pos e in let k = ltb-false 0 (m * up e * 1 + 4096 * down e) h in absurd (omega arith)
+    go false false h = let k = ltb-false (m * up e * 1) (4096 * down e) h in large (m * up e) (down e) (down-pos e) (omega arith)
+
+pub no-number : (x : Float) → eq x x ≡ false → magnitude x ≡ 0
+unfolding magnitude ne
+no-number x t = ap magnitude (differs-from-itself x (subst (λ (b : Bool). T (not b)) (sym t) tt))
+
+-- ---- the coefficient, from the sign's test and the magnitude
+under : (x : Float) → lt x zeroDouble ≡ true → coefficientOf x ≡ negℤ (pos (min (magnitude x) 2048))
+unfolding coefficientOf lt
+under nan t = absurd (true≢false (sym t))
+under (inf true) t = refl
+under (inf false) t = absurd (true≢false (sym t))
+under (fin true m e) t = refl
+under (fin false m e) t = let h = ltb-true (m * up e * 1) (0 * down e) t in absurd (omega arith)
+
+over : (x : Float) → lt x zeroDouble ≡ false → coefficientOf x ≡ pos (min (magnitude x) 2047)
+unfolding coefficientOf lt
+over nan t = refl
+over (inf true) t = absurd (true≢false t)
+over (inf false) t = refl
+over (fin true m e) t =
+    let k = ltb-false 0 (m * up e * 1 + 0 * down e) t in
+    let n = none (m * up e) (down e) (down-pos e) (omega arith) in
+    ap (λ (j : ℕ). negℤ (pos (min j 2048))) n ∙ sym (ap (λ (j : ℕ). pos (min j 2047)) n)
+over (fin false m e) t = refl
+
+pub by-sign : (x : Float) → clamped (lt x zeroDouble) (min (magnitude x) 4096) ≡ coefficientOf x
+by-sign x = go (lt x zeroDouble) refl
+  where
+    go : (b : Bool) → lt x zeroDouble ≡ b → clamped b (min (magnitude x) 4096) ≡ coefficientOf x
+    go true t = ap (λ (n : ℕ). negℤ (pos n)) (let e : min (min (magnitude x) 4096) 2048 ≡ min (magnitude x) 2048 = omega arith in e) ∙ sym (under x t)
+    go false t = ap pos (let e : min (min (magnitude x) 4096) 2047 ≡ min (magnitude x) 2047 = omega arith in e) ∙ sym (over x t)

@@ -1,0 +1,7 @@
+pub mod Double
+pub mod Cosine
+pub mod Line
+pub mod Rounding
+pub mod Block
+pub mod Reply
+pub mod Pass

@@ -1,0 +1,79 @@
+// The 8 x 8 forward transform of residuals, on doubles (document 01, "Transform"): rows, then columns.
+ghost use mathlib.Core.Path.{_≡_};
+ghost use lib.ListN.{length};
+ghost use Rattle.basis.specs.Lists.{tabulate};
+ghost use Rattle.refusal.specs.Reply.{done};
+ghost use Rattle.fdct.specs.Block.{sample, coefficients};
+ghost use Rattle.fdct.specs.Pass.{entries, swappedAt};
+ghost use Rattle.fdct.specs.Reply.{dctReply};
+ghost use Rattle.fdct.specs.Rounding.{coefficientOf};
+use refusal::Refusal;
+use refusal::Reply;
+
+mod cosine;
+mod line;
+mod rounding;
+
+// What turns a transform back: 12, 13.
+fn dct_reply(residual: &[i32], area: usize) -> Reply
+    ensures { λ r. ⌜ r ≡ dctReply (now (residual .entry)) area ⌝ }
+{
+    let sizes = refusal::both(residual.len() == 64, area == 64);
+    let length = refusal::unless(sizes, Refusal::Length, Reply::Done);
+    let within = refusal::all_in_range(-255, 255, residual);
+    let range = refusal::unless(within, Refusal::Range, Reply::Done);
+    refusal::and_then(length, range)
+}
+
+// The residuals as doubles, with rows and columns swapped.
+fn to_doubles(residual: &[i32]) -> [f64; 64]
+    requires { ⌜ length (now residual) ≡ 64 ⌝ }
+    ensures { λ r. ⌜ r ≡ tabulate 64 (swappedAt (sample (now (residual .entry)))) ⌝ }
+{
+    let mut block = [0.0f64; 64];
+    for k in 0..64usize {
+        block[k] = residual[k % 8 * 8 + k / 8] as f64;
+    }
+    block
+}
+
+// The coefficients of the doubles, place by place.
+fn write_out(block: &[f64; 64], out: &mut [i32])
+    requires { ⌜ length (now out) ≡ 64 ⌝ }
+    ensures { λ _. ⌜ now (out .exit) ≡ tabulate 64 (λ k. coefficientOf (entries (now (block .entry)) k)) ⌝ }
+{
+    for k in 0..64usize {
+        out[k] = rounding::coefficient_of(block[k]);
+    }
+}
+
+// Rows, then columns. A pass transforms columns, so the block is swapped before each.
+fn transform(residual: &[i32], out: &mut [i32])
+    requires { ⌜ (length (now residual) ≡ 64) × (length (now out) ≡ 64) ⌝ }
+    ensures { λ _. ⌜ now (out .exit) ≡ coefficients (now (residual .entry)) ⌝ }
+{
+    // A constant array is copied wherever it is read, so it is read once.
+    let table = cosine::TABLE;
+    let block = to_doubles(residual);
+    let mut across = [0.0f64; 64];
+    line::fdct_1d(&table, &block, &mut across);
+    let rows = line::swapped(&across);
+    let mut down = [0.0f64; 64];
+    line::fdct_1d(&table, &rows, &mut down);
+    write_out(&down, out);
+}
+
+// The coefficients of a block of 8 x 8 residuals, at 8 bits: 12, 13.
+pub fn forward_dct_8x8(residual: &[i32], out: &mut [i32]) -> Reply
+    ensures { λ r. ⌜ r ≡ dctReply (now (residual .entry)) (length (now (out .entry))) ⌝ }
+    ensures { λ r. ⌜ now (out .exit) ≡ done r (coefficients (now (residual .entry))) (now (out .entry)) ⌝ }
+{
+    let reply = dct_reply(residual, out.len());
+    match reply {
+        Reply::Refused(why) => Reply::Refused(why),
+        Reply::Done => {
+            transform(residual, out);
+            Reply::Done
+        }
+    }
+}

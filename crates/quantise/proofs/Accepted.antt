@@ -1,0 +1,96 @@
+-- What holds of a call that is not turned back. Assumes nothing.
+use Prim.Native.Nat.{ℕ, _≤_, _<_}
+use native.Mathlib.Omega.{arith}
+use mathlib.Core.Bool.{Bool, true, false, not, _&&_, _||_}
+use mathlib.Core.List.{List}
+use mathlib.Core.Path.{_≡_, sym, ap, _∙_}
+use lib.Dec.{eqb}
+use lib.IntN.{ℤ, pos, negsuc, natAbs}
+use lib.ListN.{length, getD}
+use borrow.Author.Tests.{eqb-true, eq-eqb}
+use Rattle.refusal.specs.declared.Refusal.the-variants.{Quantiser, Weight, Length, Range}
+use Rattle.refusal.specs.declared.Reply.the-variants.{Done}
+use Rattle.refusal.specs.Reply.{unless}
+use Rattle.refusal.specs.Test.{between, inRange, allInRange}
+use Rattle.refusal.proofs.Every.{every-at}
+use Rattle.refusal.proofs.Replies.{held, after}
+use Rattle.refusal.proofs.Tests.{and-left, and-right, between-low, between-high}
+use Rattle.quantise.specs.Block.{noZero, quantiseReply, inverseReply}
+use Rattle.quantise.proofs.Signs.{size-in}
+
+not-zero : (w : ℕ) → not (eqb w 0) ≡ true → 1 ≤ w
+not-zero w e = omega (arith, some)
+  where
+    never : true ≡ false → ⊥
+    never z = let y : _≡_ {A = ℕ} 0 1 = cc in omega arith
+
+    some : w ≡ 0 → ⊥
+    some z = never (sym e ∙ ap not (eq-eqb w 0 z))
+
+pub record Sound (fs : List ℤ) (q : ℕ) (weights : List ℕ) (n : ℕ) : Type 0 where
+  pub low : 1 ≤ q
+  pub high : q ≤ 31
+  pub long : length fs ≡ 64
+  pub weights-long : length weights ≡ 64
+  pub area-long : n ≡ 64
+  pub small : (i : ℕ) → i < 64 → natAbs (getD fs i (pos 0)) ≤ 2048
+  pub ranged : (i : ℕ) → i < 64 → inRange (negsuc 2047) (pos 2047) (getD fs i (pos 0)) ≡ true
+
+module _ (fs : List ℤ) (q : ℕ) (first : Bool) (weights : List ℕ) (n : ℕ) (e : quantiseReply fs q first weights n ≡ Done) where
+  -- the tests that were passed, one after the other
+  past-quantiser : unless (not first || noZero weights) Weight (unless (eqb (length fs) 64 && (eqb (length weights) 64 && eqb n 64)) Length (unless (allInRange (negsuc 2047) (pos 2047) fs) Range Done)) ≡ Done
+  unfolding quantiseReply
+  past-quantiser = after (between 1 31 q) Quantiser _ e
+
+  past-weight : unless (eqb (length fs) 64 && (eqb (length weights) 64 && eqb n 64)) Length (unless (allInRange (negsuc 2047) (pos 2047) fs) Range Done) ≡ Done
+  past-weight = after (not first || noZero weights) Weight _ past-quantiser
+
+  sizes : (eqb (length fs) 64 && (eqb (length weights) 64 && eqb n 64)) ≡ true
+  sizes = held (eqb (length fs) 64 && (eqb (length weights) 64 && eqb n 64)) Length _ past-weight
+
+  pub sound : Sound fs q weights n
+  unfolding quantiseReply
+  sound =
+      let scale = held (between 1 31 q) Quantiser _ e in
+      let long : length fs ≡ 64 = eqb-true _ 64 (and-left (eqb (length fs) 64) _ sizes) in
+      let areas = and-right (eqb (length fs) 64) _ sizes in
+      let range = held (allInRange (negsuc 2047) (pos 2047) fs) Range Done (after (eqb (length fs) 64 && (eqb (length weights) 64 && eqb n 64)) Length _ past-weight) in
+      let ranged : (i : ℕ) → i < 64 → inRange (negsuc 2047) (pos 2047) (getD fs i (pos 0)) ≡ true =
+      λ i h. every-at (inRange (negsuc 2047) (pos 2047)) fs i (pos 0) range (omega arith) in
+      record {
+        low = between-low 1 31 q scale;
+        high = between-high 1 31 q scale;
+        long = long;
+        weights-long = eqb-true _ 64 (and-left (eqb (length weights) 64) _ areas);
+        area-long = eqb-true _ 64 (and-right (eqb (length weights) 64) _ areas);
+        small = λ i h. size-in 2047 2047 (getD fs i (pos 0)) (ranged i h) (omega arith);
+        ranged = ranged;
+      }
+
+  pub weight-some : first ≡ true → (i : ℕ) → i < 64 → 1 ≤ getD weights i 0
+  weight-some t i h =
+      not-zero _
+      (every-at (λ (w : ℕ). not (eqb w 0)) weights i 0 (sym (ap (λ (b : Bool). not b || noZero weights) t) ∙ held (not first || noZero weights) Weight _ past-quantiser) (omega (arith, sound .weights-long)))
+
+pub record SoundInverse (levels : List ℤ) (q n : ℕ) : Type 0 where
+  pub low : 1 ≤ q
+  pub high : q ≤ 31
+  pub long : length levels ≡ 64
+  pub area-long : n ≡ 64
+  pub small : (i : ℕ) → i < 64 → natAbs (getD levels i (pos 0)) ≤ 2047
+
+pub sound-inverse : (levels : List ℤ) (q n : ℕ) → inverseReply levels q n ≡ Done → SoundInverse levels q n
+unfolding inverseReply
+sound-inverse levels q n e =
+    let scale = held (between 1 31 q) Quantiser _ e in
+    let past = after (between 1 31 q) Quantiser _ e in
+    let sizes = held (eqb (length levels) 64 && eqb n 64) Length _ past in
+    let range = held (allInRange (negsuc 2046) (pos 2047) levels) Range Done (after (eqb (length levels) 64 && eqb n 64) Length _ past) in
+    let long : length levels ≡ 64 = eqb-true _ 64 (and-left (eqb (length levels) 64) (eqb n 64) sizes) in
+    record {
+      low = between-low 1 31 q scale;
+      high = between-high 1 31 q scale;
+      long = long;
+      area-long = eqb-true _ 64 (and-right (eqb (length levels) 64) (eqb n 64) sizes);
+      small = λ i h. size-in 2046 2047 (getD levels i (pos 0)) (every-at (inRange (negsuc 2046) (pos 2047)) levels i (pos 0) range (omega arith)) (omega arith);
+    }

@@ -1,0 +1,197 @@
+-- Signs and sizes of coefficients and levels: moving toward 0, dividing toward 0, and cutting. Assumes nothing.
+use Prim.Native.Nat.{ℕ, zero, suc, _+_, _*_, _-_, _/_, _%_, _≤_, _<_, _^_, min}
+use native.Mathlib.Nat.{zero-add, zero-div, div-le-self, le-trans}
+use native.Mathlib.Omega.{arith}
+use mathlib.Core.Bool.{Bool, true, false, cond}
+use mathlib.Core.Path.{_≡_, refl, sym, ap, ap₂, _∙_, subst}
+use lib.Dec.{T, ltb, eqb, lit≤}
+use lib.IntN.{ℤ, pos, negsuc, negℤ, natAbs, _+ℤ_, _-ℤ_, _*ℤ_, +ℤ-idl}
+use lib.Signed.{ltZ, quotZ, nonNeg}
+use mir.Syntax.{w32}
+use mir.Val.{SFits, Fits, toZ, ofZ}
+use mir.ValLaws.{toZ-ofZ, toZ-pos}
+use borrow.Author.Tests.{ltb-true, ltb-false}
+use Rattle.basis.specs.Parts.{above, below}
+use Rattle.basis.proofs.Bounds.{product-le}
+use Rattle.basis.proofs.Parts.{ext, sides, above-add, below-add, above-sub, below-sub, above-mul, below-mul, above-neg, below-neg, parts-fit}
+use Rattle.basis.proofs.Signed.{lt-true, lt-false}
+use Rattle.refusal.specs.Test.{inRange}
+use Rattle.refusal.proofs.Tests.{range-low, range-high}
+use Rattle.quantise.specs.Level.{signed, cutTo, inverseSize}
+
+-- a case for each outcome of a comparison
+pub either : (P : Type 0) (a b : ℕ) → (a ≤ b → P) → (b < a → P) → P
+either P a b f g = by (ltb b a) refl
+  where
+    by : (t : Bool) → ltb b a ≡ t → P
+    by true e = g (ltb-true b a e)
+    by false e = f (ltb-false b a e)
+
+pub size-parts : (z : ℤ) → natAbs z ≡ above z + below z
+size-parts (pos a) = omega arith
+size-parts (negsuc a) = omega arith
+
+-- a size from a range
+pub size-in : (a b : ℕ) (z : ℤ) → inRange (negsuc a) (pos b) z ≡ true → b ≤ suc a → natAbs z ≤ suc a
+size-in a b z e h = omega (arith, size-parts z, range-low (negsuc a) (pos b) z e, range-high (negsuc a) (pos b) z e, sides z)
+
+-- a number that is cut at its lower end, at its upper end, and not at all
+module _ (low high z : ℤ) where
+  pub cut-low : above z + below low ≤ above low + below z → above low + below high ≤ above high + below low → cutTo low high z ≡ low
+  cut-low h k = by (ltZ z low) refl (ltZ high z) refl
+    where
+      by : (t : Bool) → ltZ z low ≡ t → (u : Bool) → ltZ high z ≡ u → cond t low (cond u high z) ≡ low
+      by true e u f = refl
+      by false e true f = absurd (omega (arith, lt-true high z f))
+      by false e false f = let g = lt-false z low e in ext z low (omega (arith, sides z, sides low)) (omega (arith, sides z, sides low))
+
+  pub cut-high : above high + below z ≤ above z + below high → above low + below high ≤ above high + below low → cutTo low high z ≡ high
+  cut-high h k = by (ltZ z low) refl (ltZ high z) refl
+    where
+      by : (t : Bool) → ltZ z low ≡ t → (u : Bool) → ltZ high z ≡ u → cond t low (cond u high z) ≡ high
+      by true e u f = absurd (omega (arith, lt-true z low e))
+      by false e true f = refl
+      by false e false f = let g = lt-false high z f in ext z high (omega (arith, sides z, sides high)) (omega (arith, sides z, sides high))
+
+  pub cut-none : above low + below z ≤ above z + below low → above z + below high ≤ above high + below z → cutTo low high z ≡ z
+  cut-none h k = by (ltZ z low) refl (ltZ high z) refl
+    where
+      by : (t : Bool) → ltZ z low ≡ t → (u : Bool) → ltZ high z ≡ u → cond t low (cond u high z) ≡ z
+      by true e u f = absurd (omega (arith, lt-true z low e))
+      by false e true f = absurd (omega (arith, lt-true high z f))
+      by false e false f = refl
+
+-- x moved toward 0 by d, from below and from above
+up-is : (a d : ℕ) → suc a ≤ 32768 → cutTo (negsuc 32767) (pos 0) (negsuc a +ℤ pos d) ≡ negℤ (pos (suc a - d))
+up-is a d h =
+    let z = negsuc a +ℤ pos d in
+    let p = above-add (negsuc a) (pos d) in
+    let n = below-add (negsuc a) (pos d) in
+    either _ (suc a) d
+    (λ k. cut-high (negsuc 32767) (pos 0) z (omega arith) (omega arith) ∙ ap (λ (m : ℕ). negℤ (pos m)) (none k))
+    (λ k. cut-none (negsuc 32767) (pos 0) z (omega arith) (omega arith) ∙ ext z (negℤ (pos (suc a - d))) (p ∙ omega (arith, above-neg (pos (suc a - d)))) (n ∙ omega (arith, below-neg (pos (suc a - d)))))
+  where
+    none : suc a ≤ d → 0 ≡ suc a - d
+    none k = omega arith
+
+down-is : (a d : ℕ) → a ≤ 32768 → cutTo (pos 0) (pos 32768) (pos a -ℤ pos d) ≡ pos (a - d)
+down-is a d h =
+    let z = pos a -ℤ pos d in
+    let p = above-sub (pos a) (pos d) in
+    let n = below-sub (pos a) (pos d) in
+    either _ a d
+    (λ k. cut-low (pos 0) (pos 32768) z (omega arith) (omega arith) ∙ ap pos (none k))
+    (λ k. cut-none (pos 0) (pos 32768) z (omega arith) (omega arith) ∙ ext z (pos (a - d)) (p ∙ omega arith) (n ∙ omega arith))
+  where
+    none : a ≤ d → 0 ≡ a - d
+    none k = omega arith
+
+module _ (x : ℤ) (d : ℕ) (small : natAbs x ≤ 32768) where
+  pub up-fits : d ≤ 8192 → SFits w32 (x +ℤ pos d)
+  up-fits h = parts-fit (x +ℤ pos d) (omega (arith, above-add x (pos d), size-parts x)) (omega (arith, below-add x (pos d), size-parts x))
+
+  pub down-fits : d ≤ 8192 → SFits w32 (x -ℤ pos d)
+  down-fits h = parts-fit (x -ℤ pos d) (omega (arith, above-sub x (pos d), size-parts x)) (omega (arith, below-sub x (pos d), size-parts x))
+
+pub toward-up : (x : ℤ) (d : ℕ) → natAbs x ≤ 32768 → ltZ x (pos 0) ≡ true → cutTo (negsuc 32767) (pos 0) (x +ℤ pos d) ≡ signed x (natAbs x - d)
+toward-up (pos a) d h t = absurd (omega (arith, lt-true (pos a) (pos 0) t))
+toward-up (negsuc a) d h t = up-is a d h
+
+pub toward-down : (x : ℤ) (d : ℕ) → natAbs x ≤ 32768 → ltZ x (pos 0) ≡ false → cutTo (pos 0) (pos 32768) (x -ℤ pos d) ≡ signed x (natAbs x - d)
+toward-down (pos a) d h t = down-is a d h
+toward-down (negsuc a) d h t = absurd (omega (arith, lt-false (negsuc a) (pos 0) t))
+
+-- division toward 0 keeps the sign
+pub signed-quot : (f : ℤ) (m d : ℕ) → quotZ (signed f m) (pos d) ≡ signed f (m / d)
+signed-quot (pos a) m d = refl
+signed-quot (negsuc a) zero d = ap pos (zero-div d) ∙ ap (λ (n : ℕ). negℤ (pos n)) (sym (zero-div d))
+signed-quot (negsuc a) (suc m) d = refl
+
+pub signed-fits : (f : ℤ) (m : ℕ) → m ≤ 126945 → SFits w32 (signed f m)
+signed-fits (pos a) m h = record { sfits = omega arith }
+signed-fits (negsuc a) m h = parts-fit (negℤ (pos m)) (omega (arith, above-neg (pos m))) (omega (arith, below-neg (pos m)))
+
+-- 31 times 4,095 at most
+pub inverse-most : (q l : ℕ) → q ≤ 31 → l ≤ 2047 → inverseSize q l ≤ 126945
+inverse-most q l h k = by (eqb (q % 2) 0) (product-le {a = q} {b = 2 * l + 1} {m = 31} {n = 4095} h (omega arith))
+  where
+    by : (t : Bool) → q * (2 * l + 1) ≤ 31 * 4095 → cond t (q * (2 * l + 1) - 1) (q * (2 * l + 1)) ≤ 126945
+    by true m = omega arith
+    by false m = omega arith
+
+-- sixteen times a coefficient
+pub sixteen-size : (f : ℤ) → natAbs (f *ℤ pos 16) ≡ 16 * natAbs f
+sixteen-size f = size-parts (f *ℤ pos 16) ∙ omega (arith, size-parts f, above-mul f 16, below-mul f 16)
+
+pub sixteen-fits : (f : ℤ) → natAbs f ≤ 2048 → SFits w32 (f *ℤ pos 16)
+sixteen-fits f h = parts-fit (f *ℤ pos 16) (omega (arith, size-parts f, above-mul f 16)) (omega (arith, size-parts f, below-mul f 16))
+
+pub sixteen-sign : (f : ℤ) (m : ℕ) → signed (f *ℤ pos 16) m ≡ signed f m
+sixteen-sign (pos a) m = refl
+sixteen-sign (negsuc a) m = ap (λ (z : ℤ). signed z m) (below-negative (suc a * 16) (omega arith))
+  where
+    below-negative : (n : ℕ) → 0 < n → negℤ (pos n) ≡ negsuc (n - 1)
+    below-negative zero h = absurd (omega arith)
+    below-negative (suc n) h = ap negsuc less
+      where
+        less : n ≡ suc n - 1
+        less = omega arith
+
+-- a sign put on, and taken off
+pub minus-size : (x : ℤ) → ltZ x (pos 0) ≡ true → pos 0 -ℤ x ≡ pos (natAbs x)
+minus-size (pos a) t = absurd (omega (arith, lt-true (pos a) (pos 0) t))
+minus-size (negsuc a) t = ap pos (zero-add (suc a))
+
+pub minus-signed : (f : ℤ) (m : ℕ) → ltZ f (pos 0) ≡ true → pos 0 -ℤ pos m ≡ signed f m
+minus-signed (pos a) m t = absurd (omega (arith, lt-true (pos a) (pos 0) t))
+minus-signed (negsuc a) m t = +ℤ-idl (negℤ (pos m))
+
+pub plus-signed : (f : ℤ) (m : ℕ) → ltZ f (pos 0) ≡ false → pos m ≡ signed f m
+plus-signed (pos a) m t = refl
+plus-signed (negsuc a) m t = absurd (omega (arith, lt-false (negsuc a) (pos 0) t))
+
+module _ (m : ℕ) (h : m ≤ 126945) where
+  pub minus-read : pos 0 -ℤ toZ w32 m ≡ pos 0 -ℤ pos m
+  minus-read = ap (λ (z : ℤ). pos 0 -ℤ z) (toZ-pos w32 m (omega arith))
+
+  pub minus-fits : SFits w32 (pos 0 -ℤ toZ w32 m)
+  minus-fits = subst (SFits w32) (sym (minus-read ∙ minus-signed (negsuc 0) m refl)) (signed-fits (negsuc 0) m h)
+
+-- a number that is not negative, cast to an unsigned one
+pub cast-up : (z : ℤ) (m : ℕ) → z ≡ pos m → m ≤ 32768 → T (nonNeg z) × Fits w32 (natAbs z)
+cast-up z m e h = subst (λ (v : ℤ). T (nonNeg v) × Fits w32 (natAbs v)) (sym e) (tt, record { fits = omega arith })
+
+pub not-below : (x : ℤ) → ltZ x (pos 0) ≡ false → x ≡ pos (natAbs x)
+not-below (pos a) t = refl
+not-below (negsuc a) t = absurd (omega (arith, lt-false (negsuc a) (pos 0) t))
+
+-- a level's size is cut
+pub signed-cut : (f : ℤ) (m : ℕ) → cutTo (negsuc 2046) (pos 2047) (signed f m) ≡ signed f (min m 2047)
+signed-cut f m = either _ m 2047 (λ k. kept f k ∙ ap (signed f) (below-cut k)) (λ k. cut f k ∙ ap (signed f) (above-cut k))
+  where
+    below-cut : m ≤ 2047 → m ≡ min m 2047
+    below-cut k = omega arith
+
+    above-cut : 2047 < m → 2047 ≡ min m 2047
+    above-cut k = omega arith
+
+    kept : (f : ℤ) → m ≤ 2047 → cutTo (negsuc 2046) (pos 2047) (signed f m) ≡ signed f m
+    kept (pos a) k = cut-none (negsuc 2046) (pos 2047) (pos m) (omega arith) (omega arith)
+    kept (negsuc a) k = cut-none (negsuc 2046) (pos 2047) (negℤ (pos m)) (omega (arith, below-neg (pos m))) (omega (arith, above-neg (pos m)))
+
+    cut : (f : ℤ) → 2047 < m → cutTo (negsuc 2046) (pos 2047) (signed f m) ≡ signed f 2047
+    cut (pos a) k = cut-high (negsuc 2046) (pos 2047) (pos m) (omega arith) (omega arith)
+    cut (negsuc a) k = cut-low (negsuc 2046) (pos 2047) (negℤ (pos m)) (omega (arith, above-neg (pos m), below-neg (pos m))) (omega arith)
+
+-- the quotient of what `toward_zero` gives, as the machine reads it
+module _ (x t : ℤ) (m d : ℕ) (e : t ≡ signed x m) (small : m ≤ 32768) (most : d < 2 ^ 31) where
+  pub quot-read : quotZ (toZ w32 (ofZ w32 t)) (toZ w32 d) ≡ signed x (m / d)
+  quot-read =
+      ap₂ quotZ (ap (λ (z : ℤ). toZ w32 (ofZ w32 z)) e ∙ toZ-ofZ w32 (signed x m) (signed-fits x m (le-trans small (lit≤ tt)))) (toZ-pos w32 d most)
+      ∙ signed-quot x m d
+
+  pub quot-fits : SFits w32 (quotZ (toZ w32 (ofZ w32 t)) (toZ w32 d))
+  quot-fits = subst (SFits w32) (sym quot-read) (signed-fits x (m / d) (le-trans (div-le-self m d) (le-trans small (lit≤ tt))))
+
+  pub quot-value : toZ w32 (ofZ w32 (quotZ (toZ w32 (ofZ w32 t)) (toZ w32 d))) ≡ signed x (m / d)
+  quot-value = toZ-ofZ w32 (quotZ (toZ w32 (ofZ w32 t)) (toZ w32 d)) quot-fits ∙ quot-read

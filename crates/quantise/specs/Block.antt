@@ -1,0 +1,44 @@
+-- Blocks of 64, and what turns a call back (document 01, "Turned back because of the input", 10 to 13, in that order).
+-- A weight stands at its coefficient's own place, as in the Rust.
+use Prim.Native.Nat.{ℕ}
+use mathlib.Core.Bool.{Bool, cond, not, _&&_, _||_}
+use mathlib.Core.List.{List}
+use lib.Dec.{eqb}
+use lib.IntN.{ℤ, pos, negsuc}
+use lib.ListN.{length, getD}
+use Rattle.basis.specs.Lists.{tabulate}
+use Rattle.refusal.specs.declared.Refusal.the-variants.{Quantiser, Weight, Length, Range}
+use Rattle.refusal.specs.declared.Reply.{Reply}
+use Rattle.refusal.specs.declared.Reply.the-variants.{Done}
+use Rattle.refusal.specs.Reply.{unless}
+use Rattle.refusal.specs.Test.{between, every, allInRange}
+use Rattle.quantise.specs.Level.{levelOf, levelByWeight, inverseOf}
+
+-- the level at place i, by the first method where `first` is true
+abbrev pub levelAt : Bool → ℕ → List ℕ → List ℤ → ℕ → ℤ
+levelAt first q weights fs i = cond first (levelByWeight (getD weights i 0) q (getD fs i (pos 0))) (levelOf q (getD fs i (pos 0)))
+
+unfoldable pub blockLevels : Bool → ℕ → List ℕ → List ℤ → List ℤ
+blockLevels first q weights fs = tabulate 64 (levelAt first q weights fs)
+
+unfoldable pub blockInverse : ℕ → List ℤ → List ℤ
+blockInverse q levels = tabulate 64 (λ i. inverseOf q (getD levels i (pos 0)))
+
+-- the first method wants weights that are not 0
+abbrev pub noZero : List ℕ → Bool
+noZero weights = every (λ w. not (eqb w 0)) weights
+
+-- of coefficients, the quantiser, the method, weights, and an output area of n places
+unfoldable pub quantiseReply : List ℤ → ℕ → Bool → List ℕ → ℕ → Reply
+quantiseReply fs q first weights n =
+    unless (between 1 31 q) Quantiser
+    (unless (not first || noZero weights) Weight
+    (unless (eqb (length fs) 64 && (eqb (length weights) 64 && eqb n 64)) Length
+    (unless (allInRange (negsuc 2047) (pos 2047) fs) Range Done)))
+
+-- of levels, the quantiser, and an output area of n places
+unfoldable pub inverseReply : List ℤ → ℕ → ℕ → Reply
+inverseReply levels q n =
+    unless (between 1 31 q) Quantiser
+    (unless (eqb (length levels) 64 && eqb n 64) Length
+    (unless (allInRange (negsuc 2046) (pos 2047) levels) Range Done))

@@ -1,0 +1,4 @@
+pub mod Accepted
+pub mod Grids
+pub mod ReadBack
+pub mod Writing

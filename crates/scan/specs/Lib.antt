@@ -1,0 +1,4 @@
+pub mod Event
+pub mod Grid
+pub mod Read
+pub mod Reply

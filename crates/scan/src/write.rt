@@ -1,0 +1,83 @@
+// The events of a block's levels in scan order, written into three lent areas.
+ghost use mathlib.Core.List.{map};
+ghost use mathlib.Core.Path.{_≡_};
+ghost use Prim.Native.Nat.{_≤_};
+ghost use lib.IntN.{pos};
+ghost use lib.ListN.{length, replicate};
+ghost use Rattle.scan.specs.Event.{eventsOf, marks, area, lastsArea, runsArea, levelsArea};
+
+fn clear_bytes(bytes: &mut [u8])
+    requires { ⌜ length (now bytes) ≡ 64 ⌝ }
+    ensures { λ _. ⌜ now (bytes .exit) ≡ replicate 64 0 ⌝ }
+{
+    for i in 0..64usize {
+        bytes[i] = 0;
+    }
+}
+
+fn clear_levels(levels: &mut [i32])
+    requires { ⌜ length (now levels) ≡ 64 ⌝ }
+    ensures { λ _. ⌜ now (levels .exit) ≡ replicate 64 (pos 0) ⌝ }
+{
+    for i in 0..64usize {
+        levels[i] = 0;
+    }
+}
+
+// Runs and levels into two cleared areas; the count of events.
+fn write_events(levels: &[i32], runs: &mut [u8], out_levels: &mut [i32]) -> usize
+    requires { ⌜ length (now levels) ≡ 64 ⌝ }
+    requires { ⌜ now runs ≡ replicate 64 0 ⌝ }
+    requires { ⌜ now «out_levels» ≡ replicate 64 (pos 0) ⌝ }
+    ensures { λ r. ⌜ r ≡ length (eventsOf (now (levels .entry))) ⌝ }
+    ensures { λ r. ⌜ now (runs .exit) ≡ runsArea (now (levels .entry)) ⌝ }
+    ensures { λ r. ⌜ now («out_levels» .exit) ≡ levelsArea (now (levels .entry)) ⌝ }
+{
+    let mut count: usize = 0;
+    let mut run: u8 = 0;
+    let mut i: usize = 0;
+    while i < 64 {
+        let x = levels[i];
+        if x == 0 {
+            run += 1;
+            i += 1;
+        } else {
+            runs[count] = run;
+            out_levels[count] = x;
+            count += 1;
+            run = 0;
+            i += 1;
+        }
+    }
+    count
+}
+
+// 1 at the last of `count` places of a cleared area.
+fn mark_last(lasts: &mut [u8], count: usize)
+    requires { ⌜ now lasts ≡ replicate 64 0 ⌝ }
+    requires { ⌜ count ≤ 64 ⌝ }
+    ensures { λ _. ⌜ now (lasts .exit) ≡ area 0 (marks count) ⌝ }
+{
+    if count == 0 {
+        return;
+    }
+    lasts[count - 1] = 1;
+}
+
+pub fn fill_events(levels: &[i32], lasts: &mut [u8], runs: &mut [u8], out_levels: &mut [i32]) -> u8
+    requires { ⌜ length (now levels) ≡ 64 ⌝ }
+    requires { ⌜ length (now lasts) ≡ 64 ⌝ }
+    requires { ⌜ length (now runs) ≡ 64 ⌝ }
+    requires { ⌜ length (now «out_levels») ≡ 64 ⌝ }
+    ensures { λ r. ⌜ r ≡ length (eventsOf (now (levels .entry))) ⌝ }
+    ensures { λ r. ⌜ now (lasts .exit) ≡ lastsArea (now (levels .entry)) ⌝ }
+    ensures { λ r. ⌜ now (runs .exit) ≡ runsArea (now (levels .entry)) ⌝ }
+    ensures { λ r. ⌜ now («out_levels» .exit) ≡ levelsArea (now (levels .entry)) ⌝ }
+{
+    clear_bytes(lasts);
+    clear_bytes(runs);
+    clear_levels(out_levels);
+    let count = write_events(levels, runs, out_levels);
+    mark_last(lasts, count);
+    count as u8
+}
