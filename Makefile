@@ -9,7 +9,9 @@ LIBDIR := target/staticlib
 
 LIBRARY := $(LIBDIR)/libhencouch.a
 SOURCES := $(wildcard crates.txt) $(shell find crates -path '*/src/*' -name '*.rt' 2>/dev/null)
-ORIGINALS := half_sample.rs quarter_sample.rs fdct.rs inverse_quant.rs
+ORIGINALS := half_sample.rs quarter_sample.rs fdct.rs inverse_quant.rs quantise.rs scan.rs
+# Functions of ivop_encode.rs, which as a whole wants files that are not to be had.
+CUT := scan_positions forward_scan qfs_to_events
 RUST := rustc --edition 2021 -C opt-level=3 -C codegen-units=1 -L native=$(LIBDIR)
 
 .PHONY: help test staticlib compare bench call originals
@@ -37,12 +39,16 @@ target/staticlib/libhencouch.a: $(SOURCES)
 # The originals, unchanged, beside the programs that name them as modules.
 originals:
 	$(if $(DOCS),,$(error DOCS is missing: the folder that has src/src/half_sample.rs))
-	$(foreach file,$(ORIGINALS),$(if $(wildcard $(DOCS)/src/src/$(file)),,\
+	$(foreach file,$(ORIGINALS) ivop_encode.rs,$(if $(wildcard $(DOCS)/src/src/$(file)),,\
 	  $(error $(DOCS)/src/src/$(file) is missing: DOCS is to be the folder above src/src)))
 	rm -rf target/oracle
 	mkdir -p target/oracle
 	cp -R oracle/. target/oracle
 	cp $(ORIGINALS:%=$(DOCS)/src/src/%) target/oracle
+	for name in $(CUT); do \
+	  sed -n "/^[a-z()]* *fn $$name(/,/^}/p" $(DOCS)/src/src/ivop_encode.rs; \
+	done > target/oracle/ivop_encode_cut.rs
+	test "$$(grep -c '^}' target/oracle/ivop_encode_cut.rs)" = $(words $(CUT))
 
 compare: originals $(LIBRARY)
 	$(RUST) -o target/oracle/compare target/oracle/compare.rs

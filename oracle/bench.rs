@@ -10,14 +10,23 @@ mod half_sample;
 mod idct;
 #[allow(dead_code)]
 mod inverse_quant;
+mod ivop_encode;
+mod levels_bench;
 mod library;
+#[allow(dead_code)]
+mod library_levels;
 mod library_transform;
 mod predictor;
+#[allow(dead_code)]
+mod quantise;
 #[allow(dead_code)]
 mod quarter_sample;
 #[allow(dead_code)]
 mod random;
 mod sample_bench;
+mod sample_padding;
+#[allow(dead_code)]
+mod scan;
 mod texture;
 mod timing;
 mod transform_bench;
@@ -25,4 +34,5 @@ mod transform_bench;
 fn main() {
     sample_bench::bench();
     transform_bench::bench();
+    levels_bench::bench();
 }

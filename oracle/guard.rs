@@ -62,3 +62,22 @@ impl<T: Pattern> Lent<T> {
         places.all(|i| self.entries[i] == T::at(i, self.salt))
     }
 }
+
+/// Holds a call that fills one area to its reply: 0 with `wanted` in the area, or a refusal with
+/// nothing written. The error is the text of the difference.
+pub fn held(lent: &Lent<i32>, got: u8, reply: u8, wanted: &[i32]) -> Result<(), String> {
+    if got != reply {
+        return Err(format!("reply {got}, wanted {reply}"));
+    }
+    if reply != 0 {
+        let text = format!("refused with {got}, and the area was written");
+        return if lent.untouched() { Ok(()) } else { Err(text) };
+    }
+    if !lent.guards_hold() {
+        return Err("written outside the output area".to_string());
+    }
+    match lent.contents().iter().zip(wanted).position(|(g, w)| g != w) {
+        None => Ok(()),
+        Some(at) => Err(format!("entry {at} is {}, wanted {}", lent.contents()[at], wanted[at])),
+    }
+}

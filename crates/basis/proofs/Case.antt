@@ -2,10 +2,10 @@
 -- Assumes nothing.
 use mathlib.Core.Path.{_≡_, refl, ap, _∙_, sym}
 use mathlib.Core.Bool.{Bool, true, false, cond, _&&_, _||_}
-use Prim.Native.Nat.{ℕ}
+use Prim.Native.Nat.{ℕ, _≤_, _<_}
 use native.Mathlib.Omega.{arith}
-use lib.Dec.{eqb}
-use borrow.Author.Tests.{eqb-true, eqb-false, eq-eqb, ne-eqb}
+use lib.Dec.{eqb, leb, ltb}
+use borrow.Author.Tests.{eqb-true, eqb-false, eq-eqb, ne-eqb, leb-true, leb-false, le-leb, ltb-true, ltb-false}
 
 pub then : {X : Type 0} (t : Bool) (x y : X) → t ≡ true → cond t x y ≡ x
 then t x y e = ap (λ (b : Bool). cond b x y) e
@@ -48,3 +48,20 @@ eqb-same a b c d f g = by (eqb a b) refl
     by : (t : Bool) → eqb a b ≡ t → eqb a b ≡ eqb c d
     by true e = e ∙ sym (eq-eqb c d (f (eqb-true a b e)))
     by false e = e ∙ sym (ne-eqb c d (λ q. eqb-false a b e (g q)))
+
+-- two tests of order agree where each fact follows from the other
+pub leb-same : (a b c d : ℕ) → (a ≤ b → c ≤ d) → (c ≤ d → a ≤ b) → leb a b ≡ leb c d
+leb-same a b c d f g = by (leb a b) (leb c d) refl refl
+  where
+    by : (t u : Bool) → leb a b ≡ t → leb c d ≡ u → leb a b ≡ leb c d
+    by true u p q = p ∙ sym (le-leb c d (f (leb-true a b p)))
+    by false true p q = absurd (omega (arith, leb-false a b p, g (leb-true c d q)))
+    by false false p q = p ∙ sym q
+
+-- a case for each outcome of a comparison
+pub either : (P : Type 0) (a b : ℕ) → (a ≤ b → P) → (b < a → P) → P
+either P a b f g = by (ltb b a) refl
+  where
+    by : (t : Bool) → ltb b a ≡ t → P
+    by true e = g (ltb-true b a e)
+    by false e = f (ltb-false b a e)

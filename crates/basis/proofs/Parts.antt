@@ -150,6 +150,11 @@ pub below-nonNeg : (z : ℤ) → below z ≡ 0 → T (nonNeg z)
 below-nonNeg (pos n) h = tt
 below-nonNeg (negsuc n) h = absurd (omega arith)
 
+-- the size is both parts together
+pub size-parts : (z : ℤ) → natAbs z ≡ above z + below z
+size-parts (pos a) = omega arith
+size-parts (negsuc a) = omega arith
+
 -- ---- long sums: z is p - n. Sums of such differences add side by side, with no case split
 
 pub record Diff (z : ℤ) (p n : ℕ) : Type 0 where

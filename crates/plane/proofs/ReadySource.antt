@@ -7,8 +7,9 @@ use mathlib.Core.List.{List}
 use mathlib.Core.Path.{_≡_, refl, sym, ap, _∙_}
 use lib.Dec.{leb, ltb}
 use lib.ListN.{length}
-use borrow.Author.Tests.{leb-true, leb-false, le-leb, ltb-true}
+use borrow.Author.Tests.{leb-true, le-leb, ltb-true}
 use Rattle.basis.proofs.Bounds.{row-before}
+use Rattle.basis.proofs.Case.{leb-same}
 use Rattle.refusal.specs.declared.Refusal.the-variants.{SourceSide, SourcePlane, Place}
 use Rattle.refusal.specs.declared.Reply.{Reply}
 use Rattle.refusal.specs.declared.Reply.the-variants.{Done}
@@ -20,15 +21,6 @@ use Rattle.plane.specs.declared.SourceSize.{SourceSize}
 use Rattle.plane.specs.declared.MacroblockPlace.{MacroblockPlace}
 use Rattle.plane.specs.Held.{Held}
 use Rattle.plane.specs.Source.{chromaSize, packed, sourceSideReply, holds, placeReply, lumaReply, chromaReply, sourceReply}
-
--- two tests of order agree where each fact follows from the other
-leb-same : (a b c d : ℕ) → (a ≤ b → c ≤ d) → (c ≤ d → a ≤ b) → leb a b ≡ leb c d
-leb-same a b c d f g = by (leb a b) (leb c d) refl refl
-  where
-    by : (t u : Bool) → leb a b ≡ t → leb c d ≡ u → leb a b ≡ leb c d
-    by true u p q = p ∙ sym (le-leb c d (f (leb-true a b p)))
-    by false true p q = absurd (omega (arith, leb-false a b p, g (leb-true c d q)))
-    by false false p q = p ∙ sym q
 
 -- a plane without columns, and one that has some
 pub holds-none : (n w h : ℕ) → w ≡ 0 → true ≡ leb (w * h) n

@@ -11,9 +11,9 @@ use lib.Dec.{eqb}
 use lib.IntN.{ℤ, pos, negsuc, negℤ, natAbs, _-ℤ_}
 use lib.ListN.{getD}
 use Rattle.basis.specs.Parts.{above, below}
-use Rattle.basis.proofs.Case.{else}
+use Rattle.basis.proofs.Case.{else, either}
 use Rattle.basis.proofs.Lists.{getD-tabulate}
-use Rattle.basis.proofs.Parts.{above-sub, below-sub, above-neg, below-neg}
+use Rattle.basis.proofs.Parts.{above-sub, below-sub, above-neg, below-neg, size-parts}
 use Rattle.refusal.specs.declared.Reply.the-variants.{Done}
 use Rattle.refusal.specs.Test.{inRange}
 use Rattle.refusal.proofs.Tests.{range-low, range-high}
@@ -21,7 +21,7 @@ use Rattle.quantise.specs.Block.{levelAt, blockLevels, quantiseReply}
 use Rattle.quantise.specs.Level.{signed, cutTo, levelOf, inverseSize, inverseOf}
 use Rattle.quantise.specs.Near.{reach, Near, NearAll}
 use Rattle.quantise.proofs.Accepted.{sound}
-use Rattle.quantise.proofs.Signs.{either, size-parts, size-in, signed-cut, cut-none, cut-high, cut-low}
+use Rattle.quantise.proofs.Signs.{size-in, signed-cut, cut-none, cut-high, cut-low}
 
 -- a case for each outcome of a test, with the outcome
 by-test : (P : ℕ → Type 0) (t : Bool) (x y : ℕ) → (t ≡ true → P x) → (t ≡ false → P y) → P (cond t x y)

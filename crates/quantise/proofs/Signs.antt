@@ -13,23 +13,12 @@ use mir.ValLaws.{toZ-ofZ, toZ-pos}
 use borrow.Author.Tests.{ltb-true, ltb-false}
 use Rattle.basis.specs.Parts.{above, below}
 use Rattle.basis.proofs.Bounds.{product-le}
-use Rattle.basis.proofs.Parts.{ext, sides, above-add, below-add, above-sub, below-sub, above-mul, below-mul, above-neg, below-neg, parts-fit}
+use Rattle.basis.proofs.Case.{either}
+use Rattle.basis.proofs.Parts.{ext, sides, size-parts, above-add, below-add, above-sub, below-sub, above-mul, below-mul, above-neg, below-neg, parts-fit}
 use Rattle.basis.proofs.Signed.{lt-true, lt-false}
 use Rattle.refusal.specs.Test.{inRange}
 use Rattle.refusal.proofs.Tests.{range-low, range-high}
 use Rattle.quantise.specs.Level.{signed, cutTo, inverseSize}
-
--- a case for each outcome of a comparison
-pub either : (P : Type 0) (a b : ℕ) → (a ≤ b → P) → (b < a → P) → P
-either P a b f g = by (ltb b a) refl
-  where
-    by : (t : Bool) → ltb b a ≡ t → P
-    by true e = g (ltb-true b a e)
-    by false e = f (ltb-false b a e)
-
-pub size-parts : (z : ℤ) → natAbs z ≡ above z + below z
-size-parts (pos a) = omega arith
-size-parts (negsuc a) = omega arith
 
 -- a size from a range
 pub size-in : (a b : ℕ) (z : ℤ) → inRange (negsuc a) (pos b) z ≡ true → b ≤ suc a → natAbs z ≤ suc a

@@ -1,0 +1,224 @@
+//! Scans and events: `forward_scan`, `inverse_scan` and `levels_to_events`, against the originals
+//! `forward_scan`, `inverse_scan` and `qfs_to_events`.
+
+use crate::guard::{held, Lent};
+use crate::ivop_encode;
+use crate::library_levels as library;
+use crate::options::Options;
+use crate::random::Random;
+use crate::scan::{self, ScanType};
+use crate::summary::Summary;
+use crate::tally::Tally;
+
+const SCANS: [ScanType; 3] =
+    [ScanType::AlternateHorizontal, ScanType::AlternateVertical, ScanType::Zigzag];
+
+/// At least this many blocks, whatever the options say.
+const BLOCKS: usize = 200_000;
+
+#[derive(Clone, Copy, Debug, PartialEq)]
+enum Function {
+    Forward,
+    Inverse,
+    Events,
+}
+
+impl Function {
+    fn name(self) -> &'static str {
+        match self {
+            Function::Forward => "forward_scan",
+            Function::Inverse => "inverse_scan",
+            Function::Events => "levels_to_events",
+        }
+    }
+
+    fn numbers(self) -> &'static [u8] {
+        match self {
+            Function::Events => &[12, 13],
+            _ => &[12, 13, 14],
+        }
+    }
+}
+
+/// Of a scan the first output area counts, of events all three.
+#[derive(Clone, Debug)]
+struct Call {
+    function: Function,
+    levels: Vec<i32>,
+    scan: u32,
+    out_len: usize,
+    lasts_len: usize,
+    runs_len: usize,
+}
+
+impl Call {
+    /// All reasons to turn the call back, in order.
+    fn reasons(&self) -> Vec<u8> {
+        let events = self.function == Function::Events;
+        let long = [self.levels.len(), self.out_len, self.lasts_len, self.runs_len];
+        let length = long[..if events { 4 } else { 2 }].iter().any(|&n| n != 64);
+        let range = self.levels.iter().any(|x| !(-2047..=2047).contains(x));
+        let all = [(12, length), (13, range), (14, !events && self.scan > 2)];
+        all.iter().filter(|reason| reason.1).map(|reason| reason.0).collect()
+    }
+
+    fn check(&self, random: &mut Random) -> Result<Vec<u8>, String> {
+        let reasons = self.reasons();
+        let reply = reasons.first().copied().unwrap_or(0);
+        let mut lent = Lent::<i32>::new(self.out_len, random.byte());
+        let found = match self.function {
+            Function::Events => self.check_events(reply, &mut lent, random),
+            _ => self.check_scan(reply, &mut lent),
+        };
+        found.map_err(|text| format!("MISMATCH: {text}\n{self:?}"))?;
+        Ok(reasons)
+    }
+
+    fn check_scan(&self, reply: u8, lent: &mut Lent<i32>) -> Result<(), String> {
+        let forward = self.function == Function::Forward;
+        let ask = if forward { library::forward_scan } else { library::inverse_scan };
+        let got = ask(&self.levels, self.scan, lent.area());
+        let wanted = if reply == 0 { self.original_scan() } else { Vec::new() };
+        held(lent, got, reply, &wanted)
+    }
+
+    fn original_scan(&self) -> Vec<i32> {
+        let scan = SCANS[self.scan as usize];
+        if self.function == Function::Forward {
+            let rows = std::array::from_fn(|v| std::array::from_fn(|u| self.levels[v * 8 + u]));
+            return ivop_encode::forward_scan(&rows, scan).to_vec();
+        }
+        let levels: &[i32; 64] = self.levels.as_slice().try_into().expect("64 levels");
+        scan::inverse_scan(levels, scan).concat()
+    }
+
+    fn check_events(
+        &self,
+        reply: u8,
+        lent: &mut Lent<i32>,
+        random: &mut Random,
+    ) -> Result<(), String> {
+        let mut lasts = Lent::<u8>::new(self.lasts_len, random.byte());
+        let mut runs = Lent::<u8>::new(self.runs_len, random.byte());
+        let before = random.byte();
+        let mut count = before;
+        let (marks, zeros) = (lasts.area(), runs.area());
+        let got = library::levels_to_events(&self.levels, marks, zeros, lent.area(), &mut count);
+        if reply != 0 {
+            if !lasts.untouched() || !runs.untouched() || count != before {
+                return Err("refused, and marks, runs or the count were written".to_string());
+            }
+            return held(lent, got, reply, &[]);
+        }
+        let wanted = self.original_events();
+        held(lent, got, reply, &wanted.levels)?;
+        if !lasts.guards_hold() || !runs.guards_hold() {
+            return Err("bytes were written outside an area".to_string());
+        }
+        let same = count == wanted.count
+            && lasts.contents() == &wanted.lasts[..]
+            && runs.contents() == &wanted.runs[..];
+        same.then_some(()).ok_or_else(|| format!("marks, runs or the count {count} differ"))
+    }
+
+    fn original_events(&self) -> Wanted {
+        let levels: &[i32; 64] = self.levels.as_slice().try_into().expect("64 levels");
+        let events = ivop_encode::qfs_to_events(levels, 0);
+        let count = events.len() as u8;
+        let mut wanted = Wanted { count, lasts: [0; 64], runs: [0; 64], levels: [0; 64] };
+        for (i, event) in events.iter().enumerate() {
+            wanted.lasts[i] = event.last as u8;
+            wanted.runs[i] = event.run as u8;
+            wanted.levels[i] = event.level;
+        }
+        wanted
+    }
+}
+
+/// The original's events, laid out as three areas.
+struct Wanted {
+    count: u8,
+    lasts: [u8; 64],
+    runs: [u8; 64],
+    levels: [i32; 64],
+}
+
+pub fn compare(options: &Options) -> Result<Summary, String> {
+    let mut equal = Vec::new();
+    let mut refusals = 0;
+    for function in [Function::Forward, Function::Inverse, Function::Events] {
+        let mut random = Random::new(options.seed.wrapping_add(0x20 + function as u64));
+        let calls = options.valid.max(BLOCKS);
+        for turn in 0..calls {
+            valid(function, turn, &mut random).check(&mut random)?;
+        }
+        equal.push((function.name(), calls));
+        refusals += damaged_calls(function, options.refused, &mut random)?;
+    }
+    Ok(Summary { equal, refusals })
+}
+
+/// A call with nothing wrong. Every seventh block is empty, full, or has one level, first, last or
+/// anywhere; the others have from few to many.
+fn valid(function: Function, turn: usize, random: &mut Random) -> Call {
+    let percent = random.pick(&[2, 5, 10, 25, 50, 75, 95]);
+    let reach = random.pick(&[1, 2, 10, 2047]);
+    let mut levels: Vec<i32> = vec![0; 64];
+    let level = |random: &mut Random| match random.int(-reach, reach) {
+        0 => random.pick(&[-2047, 2047]),
+        other => other,
+    };
+    match turn % 7 {
+        0 => {}
+        1 => levels.iter_mut().for_each(|x| *x = level(random)),
+        2 => levels[63] = level(random),
+        3 => levels[0] = level(random),
+        4 => levels[random.size(0, 63)] = level(random),
+        _ => {
+            for x in &mut levels {
+                *x = if random.chance(percent) { level(random) } else { 0 };
+            }
+        }
+    }
+    let scan = (turn % 3) as u32;
+    Call { function, levels, scan, out_len: 64, lasts_len: 64, runs_len: 64 }
+}
+
+/// One thing wrong, or several at once, so that the order of the numbers shows.
+fn damaged_calls(function: Function, calls: usize, random: &mut Random) -> Result<usize, String> {
+    let numbers = function.numbers();
+    let mut tally = Tally::new(function.name(), numbers);
+    for turn in 0..calls {
+        let mut call = valid(function, turn, random);
+        let always = random.pick(numbers);
+        let alone = random.chance(40);
+        for &number in numbers {
+            if number == always || (!alone && random.chance(40)) {
+                damage(&mut call, number, random);
+            }
+        }
+        let reasons = call.check(random)?;
+        tally.count(&reasons);
+    }
+    tally.finish()
+}
+
+fn damage(call: &mut Call, number: u8, random: &mut Random) {
+    match number {
+        12 => {
+            let len = random.pick(&[0, 1, 63, 65, 384]);
+            match random.size(0, if call.function == Function::Events { 3 } else { 1 }) {
+                0 => call.out_len = len,
+                1 => call.levels.resize(len, 0),
+                2 => call.lasts_len = len,
+                _ => call.runs_len = len,
+            }
+        }
+        13 if call.levels.is_empty() => call.levels.push(2048),
+        13 => {
+            let at = random.size(0, call.levels.len() - 1);
+            call.levels[at] = random.pick(&[-2048, 2048, 4096, i32::MIN, i32::MAX]);
+        }
+        _ => call.scan = random.pick(&[3, 4, 255, 256, 256 + 2, 1 << 31, u32::MAX]),
+    }
+}

@@ -1,0 +1,52 @@
+//! Counts of what damaged calls covered: every number alone, and before each later one.
+
+use std::collections::{BTreeMap, BTreeSet};
+
+/// A run of at least this many calls has to cover everything that is counted.
+const ENOUGH: usize = 20_000;
+
+pub struct Tally {
+    name: &'static str,
+    /// The numbers that can occur, in the order in which they are looked at.
+    numbers: &'static [u8],
+    calls: usize,
+    replies: BTreeMap<u8, usize>,
+    alone: BTreeSet<u8>,
+    pairs: BTreeSet<(u8, u8)>,
+}
+
+impl Tally {
+    pub fn new(name: &'static str, numbers: &'static [u8]) -> Self {
+        let (replies, alone, pairs) = Default::default();
+        Tally { name, numbers, calls: 0, replies, alone, pairs }
+    }
+
+    /// All reasons of one call, in order.
+    pub fn count(&mut self, reasons: &[u8]) {
+        self.calls += 1;
+        *self.replies.entry(reasons[0]).or_default() += 1;
+        self.pairs.extend(reasons[1..].iter().map(|&later| (reasons[0], later)));
+        if reasons.len() == 1 {
+            self.alone.insert(reasons[0]);
+        }
+    }
+
+    /// Prints the counts; an error if a long run left something out. The count of calls.
+    pub fn finish(self) -> Result<usize, String> {
+        let all = self.numbers.len();
+        let every = all * (all - 1) / 2;
+        let words: Vec<String> = self.replies.iter().map(|(n, c)| format!("{n} {c}")).collect();
+        println!("{}: {} refusals equal: {}", self.name, self.calls, words.join(", "));
+        println!(
+            "{}: {} of {all} numbers with no other reason, {} of {every} pairs",
+            self.name,
+            self.alone.len(),
+            self.pairs.len()
+        );
+        let covered = self.alone.len() == all && self.pairs.len() == every;
+        if self.calls >= ENOUGH && !covered {
+            return Err(format!("{}: the damaged calls left something uncovered", self.name));
+        }
+        Ok(self.calls)
+    }
+}
