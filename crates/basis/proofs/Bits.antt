@@ -1,19 +1,17 @@
 -- What the machine reads from the bits of a signed number: the shift that copies the sign bit, and the low bits, at any width.
 -- Assumes nothing.
-use Prim.Native.Nat.{ℕ, _+_, _-_, _%_, _<_}
+use Prim.Native.Nat.{ℕ, _-_, _%_, _<_}
 use native.Mathlib.Omega.{arith}
 use native.Mathlib.Nat.{lt-trans}
 use mathlib.Core.Path.{_≡_, refl, ap, _∙_}
 use lib.Bits as B
 use lib.Dec.{T, lit<}
-use lib.IntN.{ℤ, pos, negsuc, _+ℤ_, _*ℤ_}
+use lib.IntN.{ℤ, pos, negsuc}
 use lib.Signed.{nonNeg, shrZ, mag-shr}
 use mir.Syntax.{Width, w8, w32}
 use mir.Val.{Fits, SFits, toZ, ofZ}
 use mir.ValLaws.{toZ-ofZ, toZ-pos, sfits-le}
 use Rattle.basis.specs.Division.{restZ}
-use Rattle.basis.specs.Parts.{above, below}
-use Rattle.basis.proofs.Parts.{ext, above-add, below-add, above-mul, below-mul}
 
 -- an arithmetic shift of a number that fits
 pub shr-back : (w : Width) (z : ℤ) (m : ℕ) → SFits w z → toZ w (ofZ w (shrZ (toZ w (ofZ w z)) m)) ≡ shrZ z m

@@ -1,21 +1,17 @@
 -- A signed local holds bits, so each test and cast of it speaks of what the machine reads back from them, `toZ w (ofZ w z)`.
 -- These laws take such a fact to the number's two parts, which `omega` reads. A literal's bits are `ofZ w` of it by computation.
 -- Assumes nothing.
-use Prim.Native.Nat.{ℕ, zero, suc, _+_, _<_, _≤_}
+use Prim.Native.Nat.{ℕ, zero, suc, _+_, _<_, _≤_, _^_}
 use native.Mathlib.Omega.{arith}
 use mathlib.Core.Bool.{Bool, true, false}
 use mathlib.Core.Path.{_≡_, sym, ap, ap₂, _∙_, subst}
-use lib.Dec.{T}
+use lib.Dec.{T, ltb}
 use lib.IntN.{ℤ, pos, natAbs, negℤ, _+ℤ_, _-ℤ_, +ℤ-idl}
-use lib.Signed.{ltZ, leZ, nonNeg}
-use mir.Syntax.{Width}
+use lib.Signed.{ltZ, leZ, nonNeg, mag}
+use mir.Syntax.{Width, w32}
 use mir.Val.{SFits, Fits, toZ, ofZ, bits, hbits}
 use mir.ValLaws.{toZ-ofZ, toZ-pos}
 use mir.Facts.{fits-natAbs, sfits-lit}
-use lib.Signed.{mag}
-use mir.Syntax.{w32}
-use Prim.Native.Nat.{_^_}
-use lib.Dec.{ltb}
 use Rattle.basis.specs.Parts.{above, below}
 use Rattle.basis.proofs.Parts.{lt-parts, le-parts, parts-lt, parts-le, below-nonNeg, natAbs-above}
 

@@ -1,6 +1,6 @@
 -- At a whole place, by any vector, the prediction is the clamped sample. Assumes nothing.
 use Prim.Native.Nat.{ℕ}
-use mathlib.Core.Bool.{Bool, not, false}
+use mathlib.Core.Bool.{not}
 use mathlib.Core.Path.{_≡_, ap, ap₂}
 use lib.Dec.{eqb}
 use lib.IntN.{_+ℤ_}
@@ -9,7 +9,6 @@ use Rattle.basis.specs.Division.{restZ}
 use Rattle.record.specs.declared.MotionVector.{MotionVector}
 use Rattle.plane.specs.declared.Point.{Point}
 use Rattle.plane.specs.Plane.{Plane, copied}
-use Rattle.half_sample.specs.Split.{halfOf}
 use Rattle.half_sample.specs.Block.{sampleFrom, halfSample}
 
 pub half-whole : (p : Plane) (v : MotionVector) (o : Point) (rc i j : ℕ) → restZ (v .x) 2 ≡ 0 → restZ (v .y) 2 ≡ 0

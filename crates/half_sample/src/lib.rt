@@ -1,16 +1,15 @@
 // Prediction of a block from a reference plane by a vector in half samples (7.6.2.1).
 ghost use mathlib.Core.Path.{_≡_};
 ghost use mathlib.Core.Bool.{true};
-ghost use Prim.Native.Nat.{_*_, _%_, _<_};
-ghost use lib.IntN.{pos, negsuc, _+ℤ_};
+ghost use Prim.Native.Nat.{_%_, _<_};
+ghost use lib.IntN.{pos, negsuc};
 ghost use lib.ListN.{length};
-ghost use lib.Signed.{shrZ};
 ghost use Rattle.refusal.specs.declared.Reply.the-variants.{Done};
 ghost use Rattle.refusal.specs.Reply.{done};
 ghost use Rattle.refusal.specs.Test.{inRange};
 ghost use Rattle.plane.specs.Plane.{planeOf};
 ghost use Rattle.plane.specs.Reference.{blockReply};
-ghost use Rattle.half_sample.specs.Split.{halfOf, splitHalf};
+ghost use Rattle.half_sample.specs.Split.{splitHalf};
 ghost use Rattle.half_sample.specs.Average.{average2Of, average4Of, pixelOf};
 ghost use Rattle.half_sample.specs.Block.{halfBlock};
 ghost use Rattle.half_sample.specs.Start.{StartsAt};

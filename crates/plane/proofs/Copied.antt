@@ -1,10 +1,9 @@
 -- A copied block is a plane of its own. Assumes nothing.
-use Prim.Native.Nat.{ℕ, _+_, _-_, _*_, _<_, _≤_}
+use Prim.Native.Nat.{ℕ, _+_, _-_, _*_, _<_}
 use native.Mathlib.Omega.{arith}
 use mathlib.Core.Path.{_≡_, ap₂, _∙_}
-use mathlib.Core.List.{List}
 use lib.IntN.{ℤ, pos, _+ℤ_}
-use lib.ListN.{length, getD}
+use lib.ListN.{getD}
 use Rattle.basis.specs.Lists.{raster}
 use Rattle.basis.proofs.Bounds.{row-before}
 use Rattle.basis.proofs.Lists.{getD-raster, length-raster}

@@ -15,7 +15,7 @@ use Rattle.plane.specs.declared.Geometry.{Geometry}
 use Rattle.plane.specs.declared.Point.{Point}
 use Rattle.plane.specs.declared.Fetched.{Fetched}
 use Rattle.plane.specs.declared.Fetched.the-variants.{Sample, Refused as NoSample}
-use Rattle.plane.specs.Plane.{Plane, planeOf, sampleAt}
+use Rattle.plane.specs.Plane.{planeOf, sampleAt}
 
 -- width and height 1..4,096, stride from width to 8,192
 abbrev pub sized : Geometry → Bool

@@ -1,14 +1,12 @@
 -- What holds where a macroblock's prediction is not turned back. Assumes nothing.
-use Prim.Native.Nat.{ℕ, _*_, _<_}
-use native.Mathlib.Omega.{arith}
-use mathlib.Core.Bool.{Bool, true}
-use mathlib.Core.List.{List, [], _∷_}
+use Prim.Native.Nat.{ℕ, _*_}
+use mathlib.Core.Bool.{true}
+use mathlib.Core.List.{[], _∷_}
 use mathlib.Core.Path.{_≡_, refl, sym, ap, _∙_}
 use lib.IntN.{+ℤ-idr}
-use lib.ListN.{getD, length}
+use lib.ListN.{getD}
 use Rattle.basis.proofs.Small.{four}
 use Rattle.refusal.specs.declared.Refusal.the-variants.{BitsPerPixel}
-use Rattle.refusal.specs.declared.Reply.{Reply}
 use Rattle.refusal.specs.declared.Reply.the-variants.{Done}
 use Rattle.refusal.specs.Reply.{andThen}
 use Rattle.refusal.specs.Test.{between}
@@ -17,7 +15,7 @@ use Rattle.record.specs.declared.MotionVector.{MotionVector}
 use Rattle.record.specs.Zero.{zeroVector}
 use Rattle.plane.specs.declared.Geometry.{Geometry}
 use Rattle.plane.specs.declared.Point.{Point}
-use Rattle.plane.specs.Reference.{isSide, referenceReply, originInRange, motionReply, lengthReply}
+use Rattle.plane.specs.Reference.{isSide, referenceReply, motionReply, lengthReply}
 use Rattle.plane.proofs.Ready.{length-is, block-done, origin-ready}
 use Rattle.quarter_sample.proofs.Answers.{quarter-done}
 use Rattle.prediction.specs.declared.BVopSampleMode.{BVopSampleMode}

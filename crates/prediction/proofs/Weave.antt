@@ -3,7 +3,7 @@ use Prim.Native.Nat.{ℕ, _+_, _*_, _/_, _%_, _<_}
 use native.Mathlib.Omega.{arith}
 use mathlib.Core.Path.{_≡_, sym, ap, _∙_}
 use mathlib.Core.List.{List}
-use lib.ListN.{length, getD}
+use lib.ListN.{getD}
 use lib.Seq.{ext-getD}
 use Rattle.basis.specs.Lists.{rows, raster}
 use Rattle.basis.proofs.Lists.{length-raster, getD-raster, getD-rows}

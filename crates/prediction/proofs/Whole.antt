@@ -1,7 +1,7 @@
 -- Prediction at a whole place, in either mode and however far, is the clamped sample. Assumes nothing.
 use Prim.Native.Nat.{ℕ, _≤_}
 use mathlib.Core.Path.{_≡_, ap₂, _∙_}
-use lib.IntN.{ℤ, pos, _+ℤ_}
+use lib.IntN.{ℤ, _+ℤ_}
 use Rattle.basis.proofs.Division.{shr-whole, rest-whole}
 use Rattle.plane.specs.declared.Point.{Point}
 use Rattle.plane.specs.Plane.{Plane, copied}

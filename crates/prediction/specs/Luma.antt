@@ -9,9 +9,9 @@ use Rattle.plane.specs.declared.Geometry.{Geometry}
 use Rattle.plane.specs.declared.Point.{Point}
 use Rattle.plane.specs.Plane.{Plane}
 use Rattle.plane.specs.Reference.{blockReply}
-use Rattle.half_sample.specs.Block.{halfSample, halfBlock}
+use Rattle.half_sample.specs.Block.{halfSample}
 use Rattle.quarter_sample.specs.Filter.{largest}
-use Rattle.quarter_sample.specs.Block.{quarterSample, quarterBlock, quarterReply}
+use Rattle.quarter_sample.specs.Block.{quarterSample, quarterReply}
 use Rattle.prediction.specs.declared.BVopSampleMode.{BVopSampleMode}
 use Rattle.prediction.specs.declared.BVopSampleMode.the-variants.{HalfPel, QuarterPel}
 

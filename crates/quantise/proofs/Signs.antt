@@ -4,13 +4,12 @@ use native.Mathlib.Nat.{zero-add, zero-div, div-le-self, le-trans}
 use native.Mathlib.Omega.{arith}
 use mathlib.Core.Bool.{Bool, true, false, cond}
 use mathlib.Core.Path.{_≡_, refl, sym, ap, ap₂, _∙_, subst}
-use lib.Dec.{T, ltb, eqb, lit≤}
+use lib.Dec.{T, eqb, lit≤}
 use lib.IntN.{ℤ, pos, negsuc, negℤ, natAbs, _+ℤ_, _-ℤ_, _*ℤ_, +ℤ-idl}
 use lib.Signed.{ltZ, quotZ, nonNeg}
 use mir.Syntax.{w32}
 use mir.Val.{SFits, Fits, toZ, ofZ}
 use mir.ValLaws.{toZ-ofZ, toZ-pos}
-use borrow.Author.Tests.{ltb-true, ltb-false}
 use Rattle.basis.specs.Parts.{above, below}
 use Rattle.basis.proofs.Bounds.{product-le}
 use Rattle.basis.proofs.Case.{either}

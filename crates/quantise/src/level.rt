@@ -1,9 +1,7 @@
 // One coefficient or level: both forward methods for inter blocks, and the inverse of the second. Signed throughout; a quotient drops its fraction toward 0.
 ghost use mathlib.Core.Path.{_≡_};
-ghost use mathlib.Core.Bool.{true};
 ghost use Prim.Native.Nat.{_-_, _≤_, _<_};
 ghost use lib.IntN.{natAbs};
-ghost use lib.Signed.{leZ};
 ghost use Rattle.quantise.specs.Level.{signed, cutTo, levelOf, levelByWeight, inverseSize, inverseOf};
 
 fn clamp(x: i32, low: i32, high: i32) -> i32

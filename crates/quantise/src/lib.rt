@@ -4,7 +4,7 @@ ghost use mathlib.Core.Bool.{true, false, not, _||_};
 ghost use lib.ListN.{length};
 ghost use Rattle.refusal.specs.declared.Reply.the-variants.{Done};
 ghost use Rattle.refusal.specs.Reply.{done};
-ghost use Rattle.quantise.specs.Block.{noZero, levelAt, blockLevels, blockInverse, quantiseReply, inverseReply};
+ghost use Rattle.quantise.specs.Block.{noZero, blockLevels, blockInverse, quantiseReply, inverseReply};
 ghost use Rattle.quantise.specs.Near.{NearAll};
 use refusal::Refusal;
 use refusal::Reply;

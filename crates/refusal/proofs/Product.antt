@@ -1,5 +1,5 @@
 -- Whether a number is a product, by its remainder and its quotient. Assumes nothing.
-use Prim.Native.Nat.{ℕ, _+_, _*_, _/_, _%_, _≤_, _<_}
+use Prim.Native.Nat.{ℕ, _*_, _/_, _%_}
 use native.Mathlib.Omega.{arith}
 use native.Mathlib.Nat.{div-add-mod, div-eq-of-eq-mul-right, mul-mod-right, zero-mul}
 use mathlib.Core.Bool.{false}

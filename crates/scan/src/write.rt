@@ -1,5 +1,4 @@
 // The events of a block's levels in scan order, written into three lent areas.
-ghost use mathlib.Core.List.{map};
 ghost use mathlib.Core.Path.{_≡_};
 ghost use Prim.Native.Nat.{_≤_};
 ghost use lib.IntN.{pos};

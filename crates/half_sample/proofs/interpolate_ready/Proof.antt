@@ -1,9 +1,8 @@
 -- `half_sample::interpolate_ready` meets its contract. Assumes nothing.
-use Prim.Native.Nat.{ℕ, _%_}
+use Prim.Native.Nat.{_%_}
 use native.Mathlib.Omega.{arith}
 use native.Mathlib.Nat.{mul-comm}
-use mathlib.Core.Bool.{Bool, true}
-use mathlib.Core.Path.{_≡_, sym, ap, ap₂, _∙_}
+use mathlib.Core.Path.{_≡_, ap, ap₂, _∙_}
 use lib.IntN.{ℤ, pos, negsuc, _+ℤ_}
 use lib.ListN.{length}
 use lib.Signed.{shrZ}
@@ -16,7 +15,6 @@ use Rattle.plane.specs.Plane.{planeOf}
 use Rattle.plane.proofs.Ready.{BlockReady, block-ready}
 use Rattle.half_sample.specs.Split.{halfOf}
 use Rattle.half_sample.specs.Block.{sampleFrom, halfSample, halfBlock}
-use Rattle.half_sample.specs.Start.{StartsAt}
 use borrow.Author.Needs.{needs}
 use Rattle.half_sample.proofs.interpolate_ready.Statement.{statement}
 use Rattle.half_sample.proofs.interpolate_ready.Tie as tie

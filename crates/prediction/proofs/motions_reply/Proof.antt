@@ -1,5 +1,5 @@
 -- `prediction::motions_reply` meets its contract. Assumes nothing.
-use mathlib.Core.Path.{_≡_, sym, ap, _∙_}
+use mathlib.Core.Path.{sym, ap, _∙_}
 use Rattle.prediction.specs.declared.PvopMbMotion.{PvopMbMotion}
 use Rattle.prediction.specs.Macroblock.{motionsReply}
 use borrow.Author.Needs.{needs}

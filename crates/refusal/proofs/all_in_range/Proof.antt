@@ -10,7 +10,7 @@ use mir.Syntax.{w32}
 use mir.Val.{toZ, ofZ}
 use mir.ValLaws.{toZ-ofZ}
 use Rattle.basis.proofs.Signed.{of-bits}
-use Rattle.refusal.specs.Test.{inRange, every, allInRange}
+use Rattle.refusal.specs.Test.{inRange, allInRange}
 use Rattle.refusal.proofs.Every.{every-more, every-end}
 use Rattle.refusal.proofs.all_in_range.Statement.{statement}
 use Rattle.refusal.proofs.all_in_range.Tie as tie

@@ -1,10 +1,7 @@
 -- `half_sample::rows::averaged` meets its contract. Assumes nothing.
 use native.Mathlib.Omega.{arith}
-use Prim.Native.Nat.{ℕ, _+_, _<_, _≤_}
 use mathlib.Core.Path.{_≡_, sym, ap, ap₂, _∙_}
 use lib.IntN.{ℤ, pos, natAbs}
-use lib.ListN.{length}
-use lib.Signed.{mag}
 use mir.Syntax.{w32, w64}
 use mir.Val.{SFits, toZ, ofZ}
 use mir.Facts.{sfits-lit}

@@ -1,17 +1,15 @@
 -- `half_sample::rows::copied_rows` meets its contract. Assumes nothing.
-use Prim.Native.Nat.{ℕ, _+_, _*_, _≤_}
+use Prim.Native.Nat.{ℕ, _*_}
 use native.Mathlib.Omega.{arith}
 use mathlib.Core.Path.{_≡_, sym, ap, ap₂, _∙_, subst}
-use mathlib.Core.List.{List}
 use lib.IntN.{pos}
 use lib.ListN.{length}
 use Rattle.basis.specs.Lists.{raster}
 use Rattle.refusal.specs.declared.Reply.{Reply}
 use Rattle.refusal.specs.declared.Reply.the-variants.{Done}
 use Rattle.refusal.specs.Reply.{done}
-use Rattle.plane.specs.Plane.{Plane, planeOf, copied, copiedBlock}
+use Rattle.plane.specs.Plane.{Plane, planeOf, copiedBlock}
 use Rattle.plane.specs.Held.{Held}
-use Rattle.plane.specs.declared.Geometry.{Geometry}
 use Rattle.plane.proofs.Ready.{copy-done}
 use Rattle.plane.proofs.Copied.{copyOf, copy-held}
 use Rattle.half_sample.specs.Block.{sampleFrom}

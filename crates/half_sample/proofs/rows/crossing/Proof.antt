@@ -1,7 +1,7 @@
 -- `half_sample::rows::crossing` meets its contract. Assumes nothing.
 use Prim.Native.Nat.{ℕ, _*_, _≤_}
 use native.Mathlib.Omega.{arith}
-use mathlib.Core.Path.{_≡_, sym, ap₂, _∙_}
+use mathlib.Core.Path.{sym, ap₂, _∙_}
 use lib.Seq.{length-take-le}
 use Rattle.basis.proofs.Bounds.{product-le}
 use Rattle.half_sample.proofs.Averages.{reach-high}

@@ -1,13 +1,11 @@
 -- `half_sample::rows::interpolate_from` meets its contract. Assumes nothing.
-use native.Mathlib.Omega.{arith}
 use native.Mathlib.Nat.{mul-comm}
-use mathlib.Core.Bool.{Bool, true, false}
-use mathlib.Core.Path.{_≡_, sym, ap, ap₂, _∙_}
+use mathlib.Core.Bool.{Bool}
+use mathlib.Core.Path.{sym, ap, ap₂, _∙_}
 use lib.ListN.{length}
 use Rattle.basis.specs.Lists.{raster}
 use Rattle.basis.proofs.Case.{or-left, or-right}
 use Rattle.refusal.specs.declared.Reply.{Reply}
-use Rattle.refusal.specs.declared.Reply.the-variants.{Done}
 use Rattle.refusal.specs.Reply.{done}
 use Rattle.plane.specs.Plane.{planeOf, copiedBlock}
 use Rattle.plane.proofs.Ready.{copy-done}

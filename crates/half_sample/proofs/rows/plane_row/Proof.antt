@@ -1,9 +1,9 @@
 -- `half_sample::rows::plane_row` meets its contract. Assumes nothing.
-use Prim.Native.Nat.{ℕ, _+_, _-_, _*_, _≤_, _<_}
+use Prim.Native.Nat.{ℕ, _+_, _-_, _*_, _≤_}
 use native.Mathlib.Omega.{arith}
-use mathlib.Core.Path.{_≡_, sym, ap, _∙_}
+use mathlib.Core.Path.{_≡_, ap, _∙_}
 use lib.IntN.{ℤ, pos, _+ℤ_}
-use lib.ListN.{length, getD, take, drop}
+use lib.ListN.{length, take, drop}
 use mir.Syntax.{w32}
 use mir.ValLaws.{toZ-ofZ}
 use Rattle.basis.proofs.Slices.{part-length}

@@ -1,6 +1,5 @@
 -- `hencouch::sample::hencouch_interpolate_block_qpel_into` meets its contract. Assumes nothing.
 use mathlib.Core.Path.{_≡_, ap, ap₂, _∙_}
-use lib.IntN.{ℤ}
 use lib.ListN.{length}
 use mir.Syntax.{w32}
 use mir.Val.{toZ, ofZ}

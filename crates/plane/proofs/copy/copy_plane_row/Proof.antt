@@ -1,16 +1,14 @@
 -- `plane::copy::copy_plane_row` meets its contract. Assumes nothing.
-use Prim.Native.Nat.{ℕ, _+_, _-_, _*_, _≤_}
+use Prim.Native.Nat.{_+_, _-_, _*_, _≤_}
 use native.Mathlib.Omega.{arith}
 use mathlib.Core.Path.{_≡_, ap, _∙_}
 use lib.IntN.{ℤ, pos, _+ℤ_}
 use lib.ListN.{length}
 use mir.Val.{toZ, ofZ}
 use mir.Syntax.{w32}
-use Rattle.basis.specs.Lists.{tabulate}
 use Rattle.basis.proofs.Lists.{tabulate-cong}
 use Rattle.basis.proofs.Signed.{of-bits}
 use Rattle.plane.specs.Plane.{Plane, planeOf, clampTo, copied, sampleAt}
-use Rattle.plane.specs.Held.{clampedIn}
 use Rattle.plane.proofs.Inside.{row-in-plane}
 use Rattle.plane.proofs.Rows.{in-row}
 use borrow.Author.Needs.{needs}

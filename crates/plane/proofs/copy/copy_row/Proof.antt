@@ -1,6 +1,5 @@
 -- `plane::copy::copy_row` meets its contract. Assumes nothing.
 use native.Mathlib.Omega.{arith}
-use Prim.Native.Nat.{ℕ}
 use mathlib.Core.Path.{_≡_, sym, ap, _∙_}
 use lib.IntN.{ℤ, pos, natAbs}
 use lib.ListN.{length}

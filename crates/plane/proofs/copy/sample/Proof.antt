@@ -1,7 +1,6 @@
 -- `plane::copy::sample` meets its contract. Assumes nothing.
 use Prim.Native.Nat.{_+_, _*_, _<_}
 use native.Mathlib.Omega.{arith}
-use mathlib.Core.Path.{_≡_}
 use lib.IntN.{+ℤ-idr}
 use lib.ListN.{length}
 use mir.Syntax.{w32}

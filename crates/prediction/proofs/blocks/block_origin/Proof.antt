@@ -1,16 +1,14 @@
 -- `prediction::blocks::block_origin` meets its contract. Assumes nothing.
 use Prim.Native.Nat.{_*_, _/_, _%_}
 use native.Mathlib.Omega.{arith}
-use mathlib.Core.Path.{_≡_, ap, _∙_}
+use mathlib.Core.Path.{ap, _∙_}
 use lib.IntN.{ℤ, pos, negsuc, _+ℤ_}
 use mir.Syntax.{w32}
-use mir.Val.{toZ, ofZ}
 use mir.Facts.{toZ-ofZ}
-use borrow.Author.Needs.{sfits-of}
+use borrow.Author.Needs.{sfits-of, needs}
 use Rattle.basis.proofs.Signed.{of-bits}
 use Rattle.refusal.specs.Test.{inRange}
 use Rattle.refusal.proofs.Tests.{and-left, and-right, range-read}
-use borrow.Author.Needs.{needs}
 use Rattle.prediction.proofs.blocks.block_origin.Statement.{statement}
 use Rattle.prediction.proofs.blocks.block_origin.Tie as tie
 

@@ -1,12 +1,10 @@
 -- `prediction::blocks::predict_four` meets its contract. Assumes nothing.
-use Prim.Native.Nat.{ℕ, _+_, _-_, _*_, _≤_}
+use Prim.Native.Nat.{ℕ, _-_, _*_, _≤_, _%_}
 use native.Mathlib.Omega.{arith}
 use mathlib.Core.List.{List}
-use mathlib.Core.Path.{_≡_, refl, sym, ap, _∙_}
-use lib.ListN.{length, getD, take, drop}
-use Rattle.basis.specs.Lists.{tabulate, rows, raster}
+use mathlib.Core.Path.{_≡_, refl, sym}
+use lib.ListN.{length, getD}
 use Rattle.basis.proofs.Slices.{part-length}
-use Prim.Native.Nat.{_%_}
 use Rattle.basis.proofs.Lists.{length-raster, laid, laid-none, laid-put, laid-end}
 use Rattle.record.specs.declared.MotionVector.{MotionVector}
 use Rattle.record.specs.Zero.{zeroVector}

@@ -2,9 +2,9 @@
 use Prim.Native.Nat.{ℕ, _+_, _-_, _*_, _≤_}
 use native.Mathlib.Omega.{arith}
 use mathlib.Core.List.{List}
-use mathlib.Core.Path.{_≡_, refl, sym, ap, _∙_}
-use lib.ListN.{length, getD, take, drop}
-use Rattle.basis.specs.Lists.{tabulate, rows, raster}
+use mathlib.Core.Path.{_≡_, refl, sym}
+use lib.ListN.{length, getD}
+use Rattle.basis.specs.Lists.{tabulate}
 use Rattle.basis.proofs.Slices.{part-length}
 use Rattle.basis.proofs.Lists.{length-tabulate, laid, laid-none, laid-put, laid-end}
 use Rattle.prediction.specs.Four.{partAt}

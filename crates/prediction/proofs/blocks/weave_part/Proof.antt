@@ -1,10 +1,8 @@
 -- `prediction::blocks::weave_part` meets its contract. Assumes nothing.
-use Prim.Native.Nat.{ℕ, _+_, _-_, _≤_}
+use Prim.Native.Nat.{_+_, _-_, _≤_}
 use native.Mathlib.Omega.{arith}
-use mathlib.Core.List.{List}
-use mathlib.Core.Path.{_≡_, refl, sym, ap, _∙_}
+use mathlib.Core.Path.{refl, ap, _∙_}
 use lib.ListN.{length, getD, take, drop}
-use Rattle.basis.specs.Lists.{tabulate}
 use Rattle.basis.proofs.Slices.{part-length, part-tabulate}
 use Rattle.refusal.specs.declared.Reply.{Reply}
 use Rattle.refusal.specs.Reply.{done}
