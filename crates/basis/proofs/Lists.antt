@@ -48,6 +48,13 @@ module _ {A : Type 0} where
       next : a + suc b ≡ suc (a + b)
       next = omega arith
 
+  -- two lists joined, by what stands in each
+  pub tabulate-two : (a b n : ℕ) (f g h : ℕ → A) → a + b ≡ n → ((i : ℕ) → i < a → g i ≡ f i) → ((i : ℕ) → i < b → h i ≡ f (a + i))
+      → tabulate a g ++ tabulate b h ≡ tabulate n f
+  tabulate-two a b n f g h e p q =
+      ap₂ (λ (x y : List A). x ++ y) (tabulate-cong a g f p) (tabulate-cong b h (λ k. f (a + k)) q)
+      ∙ sym (tabulate-join a b f) ∙ ap (λ (m : ℕ). tabulate m f) e
+
   pub tabulate-const : (n : ℕ) (v : A) → tabulate n (λ _. v) ≡ replicate n v
   unfolding tabulate
   tabulate-const zero v = refl

@@ -6,14 +6,14 @@ use native.Mathlib.Omega.{arith}
 use mathlib.Core.Bool.{Bool, true, false}
 use mathlib.Core.Path.{_≡_, sym, ap, ap₂, _∙_, subst}
 use lib.Dec.{T, ltb}
-use lib.IntN.{ℤ, pos, natAbs, negℤ, _+ℤ_, _-ℤ_, +ℤ-idl}
+use lib.IntN.{ℤ, pos, negsuc, natAbs, negℤ, _+ℤ_, _-ℤ_, +ℤ-idl}
 use lib.Signed.{ltZ, leZ, nonNeg, mag}
 use mir.Syntax.{Width, w32}
 use mir.Val.{SFits, Fits, toZ, ofZ, bits, hbits}
 use mir.ValLaws.{toZ-ofZ, toZ-pos}
 use mir.Facts.{fits-natAbs, sfits-lit}
 use Rattle.basis.specs.Parts.{above, below}
-use Rattle.basis.proofs.Parts.{lt-parts, le-parts, parts-lt, parts-le, below-nonNeg, natAbs-above}
+use Rattle.basis.proofs.Parts.{lt-parts, le-parts, parts-lt, parts-le, below-nonNeg, natAbs-above, above-sub, below-sub, parts-fit, fits-above, fits-below}
 
 yes : {t : Bool} → t ≡ true → T t
 yes e = subst T (sym e) tt
@@ -77,3 +77,10 @@ module _ (n : ℕ) (h : n < 2 ^ 31) where
 
   pub negative-read : toZ w32 (ofZ w32 (pos 0 -ℤ toZ w32 n)) ≡ negℤ (pos n)
   negative-read = toZ-ofZ w32 (pos 0 -ℤ toZ w32 n) negative-fits ∙ negative-is
+
+-- x turned about the middle of -1 and 0, as the code's `-1 - x` gives it, fits where x does
+pub turned-fits : (w : Width) (x : ℤ) → SFits w x → SFits w (negsuc 0 -ℤ x)
+turned-fits w x f =
+    parts-fit (negsuc 0 -ℤ x)
+    (omega (arith, above-sub (negsuc 0) x, fits-above x f, fits-below x f))
+    (omega (arith, below-sub (negsuc 0) x, fits-above x f))

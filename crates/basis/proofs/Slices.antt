@@ -41,6 +41,18 @@ module _ {A : Type 0} where
       ap₂ (λ (p q : List A). p ++ (z ++ q)) h (drop-of-length-le (drop e l) {i = length l - e} (omega (arith, length-drop e l)))
       ∙ ap (λ (q : List A). x ++ q) (append-nil z)
 
+  -- a list lends its first part, which comes back as x, and then its rest, which comes back as a list of f
+  pub put-two : (l x y z : List A) (a : ℕ) (f : ℕ → A) → y ≡ x → length x ≡ a → z ≡ tabulate (length (take (length (y ++ drop a l) - a) (drop a (y ++ drop a l)))) f
+      → take a (y ++ drop a l) ++ (z ++ drop (length (y ++ drop a l) - a) (drop a (y ++ drop a l))) ≡ x ++ tabulate (length l - a) f
+  put-two l x y z a f ey h ez =
+      put-rest (y ++ drop a l) y z a (take-at y (drop a l) a (ap length ey ∙ h))
+      ∙ ap₂ (λ (p q : List A). p ++ q) ey (ez ∙ ap (λ (n : ℕ). tabulate n f) count)
+    where
+      count : length (take (length (y ++ drop a l) - a) (drop a (y ++ drop a l))) ≡ length l - a
+      count =
+          length-take (length (y ++ drop a l) - a) (drop a (y ++ drop a l))
+          ∙ omega (arith, length-drop a (y ++ drop a l), length-append y (drop a l), length-drop a l, ap length ey)
+
   -- a list keeps its length where what comes back is as long as what was lent
   pub put-length : (l y : List A) (a e : ℕ) → a + length y ≡ e → e ≤ length l → length (take a l ++ (y ++ drop (e - a) (drop a l))) ≡ length l
   put-length l y a e h k =

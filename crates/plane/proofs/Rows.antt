@@ -1,14 +1,15 @@
 -- Rows of a plane, as the code copies them. Assumes nothing.
-use Prim.Native.Nat.{ℕ, _+_, _-_, _*_, _<_, _≤_}
+use Prim.Native.Nat.{ℕ, _+_, _-_, _*_, _<_, _≤_, min}
 use native.Mathlib.Omega.{arith}
-use mathlib.Core.Path.{_≡_, ap, _∙_}
-use mathlib.Core.List.{List}
-use lib.IntN.{ℤ, pos, _+ℤ_}
+use mathlib.Core.Path.{_≡_, refl, sym, ap, ap₂, _∙_}
+use mathlib.Core.List.{List, _++_}
+use lib.IntN.{ℤ, pos, negsuc, _+ℤ_, _-ℤ_}
 use lib.ListN.{length, getD, take, drop}
 use Rattle.basis.specs.Parts.{above, below}
 use Rattle.basis.specs.Lists.{tabulate}
-use Rattle.basis.proofs.Parts.{above-add}
-use Rattle.basis.proofs.Slices.{part-at, part-length, part-tabulate}
+use Rattle.basis.proofs.Lists.{tabulate-two}
+use Rattle.basis.proofs.Parts.{sides, above-add, above-sub, below-sub}
+use Rattle.basis.proofs.Slices.{part-is, part-at, part-length, part-tabulate}
 use Rattle.plane.specs.Plane.{Plane, clampTo, sampleAt}
 use Rattle.plane.specs.Held.{Held, clampedIn}
 use Rattle.plane.proofs.Inside.{row-in-plane}
@@ -20,6 +21,46 @@ straight row x a n e z h = part-tabulate row a n (clampedIn row x) 0 h (λ i p. 
   where
     place : (i : ℕ) → i < n → a + i ≡ clampTo (length row) (x +ℤ pos i)
     place i p = omega (arith, above-add x (pos i))
+
+-- n samples from column a on, of which m lie in the row: its rest, and then its last sample
+pub past-last : (row : List ℕ) (a m n : ℕ) → a + m ≡ length row → m ≤ n
+    → take m (drop a row) ++ tabulate (n - m) (λ _. getD row (length row - 1) 0) ≡ tabulate n (clampedIn row (pos a))
+past-last row a m n e h =
+    ap (λ (t : List ℕ). t ++ tabulate (n - m) (λ _. getD row (length row - 1) 0)) inner
+    ∙ tabulate-two m (n - m) n (clampedIn row (pos a)) (clampedIn row (pos a)) (λ _. getD row (length row - 1) 0) (omega arith)
+    (λ i p. refl) (λ i p. ap (λ (q : ℕ). getD row q 0) (place i))
+  where
+    inner : take m (drop a row) ≡ tabulate m (clampedIn row (pos a))
+    inner = sym (part-is row a m) ∙ straight row (pos a) a m refl refl (omega arith)
+
+    place : (i : ℕ) → length row - 1 ≡ clampTo (length row) (pos a +ℤ pos (m + i))
+    place i = omega arith
+
+-- how many of n samples from column x on come before the row, as the code's `-1 - x` and 1 count them
+pub count-before : (x : ℤ) (n : ℕ) → clampTo (n + 1) (negsuc 0 -ℤ x +ℤ pos 1) ≡ min (below x) n
+count-before x n = ap₂ min far (omega arith)
+  where
+    far : above (negsuc 0 -ℤ x +ℤ pos 1) ≡ below x
+    far = above-add (negsuc 0 -ℤ x) (pos 1) ∙ omega (arith, above-sub (negsuc 0) x, below-sub (negsuc 0) x, sides x)
+
+-- where they are b: the row's first sample for each, and then as from its own column a on
+module _ (row : List ℕ) (x : ℤ) (n b a : ℕ) (eb : b ≡ min (below x) n) (ea : a ≡ clampTo (length row) x) where
+  first : (i : ℕ) → i < b → 0 ≡ clampTo (length row) (x +ℤ pos i)
+  first i p = omega (arith, above-add x (pos i), sides x)
+
+  later : (i : ℕ) → i < n - b → clampTo (length row) (pos a +ℤ pos i) ≡ clampTo (length row) (x +ℤ pos (b + i))
+  later i p = ap (λ (k : ℕ). min (k + i) (length row - 1)) ea ∙ again (above x) (length row - 1) ∙ ap (λ (k : ℕ). min k (length row - 1)) (sym along)
+    where
+      along : above (x +ℤ pos (b + i)) ≡ above x + i
+      along = above-add x (pos (b + i)) ∙ omega arith
+
+      again : (u t : ℕ) → min (min u t + i) t ≡ min (u + i) t
+      again u t = omega arith
+
+  pub before-first : tabulate b (λ _. getD row 0 0) ++ tabulate (n - b) (clampedIn row (pos a)) ≡ tabulate n (clampedIn row x)
+  before-first =
+      tabulate-two b (n - b) n (clampedIn row x) (λ _. getD row 0 0) (clampedIn row (pos a)) (omega arith)
+      (λ i p. ap (λ (q : ℕ). getD row q 0) (first i p)) (λ i p. ap (λ (q : ℕ). getD row q 0) (later i p))
 
 -- the part `&s[a..a + w]` of a plane is a row
 within : (s : List ℕ) (x : ℤ) (a w i : ℕ) → 0 < w → a + w ≤ length s

@@ -1,6 +1,7 @@
 // Copies out of a plane that the samples hold. Rows that lie inside it are copied as they stand.
 ghost use mathlib.Core.Path.{_≡_};
 ghost use Prim.Native.Nat.{_*_, _<_};
+ghost use lib.IntN.{pos};
 ghost use lib.ListN.{length};
 ghost use Rattle.basis.specs.Lists.{tabulate};
 ghost use Rattle.plane.specs.Plane.{planeOf, sampleAt, copied, copiedBlock};
@@ -26,36 +27,39 @@ pub fn copy_straight(from: &[u8], out: &mut [u8])
     }
 }
 
-fn copy_clamped(row: &[u8], x: i32, out: &mut [u8])
-    requires { ⌜ 0 < length (now row) ⌝ }
-    ensures { λ _. ⌜ now (out .exit) ≡ tabulate (length (now (out .entry))) (clampedIn (now (row .entry)) x) ⌝ }
+fn fill(sample: u8, out: &mut [u8])
+    ensures { λ _. ⌜ now (out .exit) ≡ tabulate (length (now (out .entry))) (λ _. sample) ⌝ }
 {
     for i in 0..out.len() {
-        let at = crate::clamp_coordinate(x, i, row.len());
-        out[i] = row[at];
+        out[i] = sample;
     }
 }
 
-// Samples of a row from column x on.
+// Samples of a row from one of its own columns on, its last for each that would come after it.
+fn copy_from(row: &[u8], at: usize, out: &mut [u8])
+    requires { ⌜ at < length (now row) ⌝ }
+    ensures { λ _. ⌜ now (out .exit) ≡ tabulate (length (now (out .entry))) (clampedIn (now (row .entry)) (pos at)) ⌝ }
+{
+    let inside = row.len() - at;
+    if out.len() <= inside {
+        let end = at + out.len();
+        copy_straight(&row[at..end], out);
+        return;
+    }
+    copy_straight(&row[at..], &mut out[..inside]);
+    fill(row[row.len() - 1], &mut out[inside..]);
+}
+
+// Samples of a row from column x on, its first for each that would come before it. Each part is filled or copied whole, so that a
+// row which crosses an edge costs no test for each sample. -1 - x fits an i32 where -x may not.
 fn copy_row(row: &[u8], x: i32, out: &mut [u8])
     requires { ⌜ 0 < length (now row) ⌝ }
     ensures { λ _. ⌜ now (out .exit) ≡ tabulate (length (now (out .entry))) (clampedIn (now (row .entry)) x) ⌝ }
 {
-    if x < 0 {
-        copy_clamped(row, x, out);
-        return;
-    }
-    let at = x as usize;
-    if row.len() < at {
-        copy_clamped(row, x, out);
-        return;
-    }
-    if row.len() - at < out.len() {
-        copy_clamped(row, x, out);
-        return;
-    }
-    let end = at + out.len();
-    copy_straight(&row[at..end], out);
+    let left = crate::clamp_coordinate(-1 - x, 1, out.len() + 1);
+    let at = crate::clamp_coordinate(x, 0, row.len());
+    fill(row[0], &mut out[..left]);
+    copy_from(row, at, &mut out[left..]);
 }
 
 // Row j of a copied block.

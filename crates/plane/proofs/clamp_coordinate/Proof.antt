@@ -8,8 +8,8 @@ use mir.Val.{SFits, toZ, ofZ}
 use mir.ValLaws.{toZ-ofZ}
 use mir.Facts.{sfits-lit}
 use Rattle.basis.specs.Parts.{above, below}
-use Rattle.basis.proofs.Parts.{sides, above-add, above-sub, below-sub, parts-fit, fits-below}
-use Rattle.basis.proofs.Signed.{lt-read, lt-true, lt-false, cast-read, cast-value}
+use Rattle.basis.proofs.Parts.{sides, above-add, above-sub, below-sub}
+use Rattle.basis.proofs.Signed.{lt-read, lt-true, lt-false, cast-read, cast-value, turned-fits}
 use borrow.Author.Needs.{needs}
 use Rattle.plane.proofs.clamp_coordinate.Statement.{statement}
 use Rattle.plane.proofs.clamp_coordinate.Tie as tie
@@ -26,10 +26,7 @@ module _ (c : tie.Then1) where
   read = toZ-ofZ w32 x (c .before .fits .x)
 
   fits : SFits w32 (negsuc 0 -ℤ x)
-  fits =
-      parts-fit (negsuc 0 -ℤ x)
-      (omega (arith, above-sub (negsuc 0) x, sides x, negative, fits-below x (c .before .fits .x)))
-      (omega (arith, below-sub (negsuc 0) x, negative))
+  fits = turned-fits w32 x (c .before .fits .x)
 
   none-below : below (negsuc 0 -ℤ x) ≡ 0
   none-below = omega (arith, below-sub (negsuc 0) x, negative)
