@@ -3,6 +3,8 @@ pub mod Bits
 pub mod Bounds
 pub mod Case
 pub mod Division
+pub mod Each
+pub mod Least
 pub mod Lists
 pub mod Parts
 pub mod Signed

@@ -2,9 +2,10 @@
 use Prim.Native.Nat.{ℕ, zero, suc, _+_, _-_, _*_, _<_, _≤_}
 use native.Mathlib.Nat.{not-suc-le-zero, zero-mul, mul-le-mul-right}
 use native.Mathlib.Decide.{decLt}
+use native.Mathlib.Numerals.{add-one}
 use native.Mathlib.Omega.{arith}
 use mathlib.Core.Path.{_≡_, refl, sym, ap, ap₂, _∙_}
-use mathlib.Core.List.{List, [], _∷_, _++_, append-assoc, append-nil}
+use mathlib.Core.List.{List, [], _∷_, _++_, append-assoc, append-nil, foldl, foldl-append}
 use lib.ListN.{length, getD, take, drop, set, length-append, length-drop, drop-of-length-le, List·getD-append, replicate, replicate-append-replicate}
 use Rattle.basis.specs.Lists.{tabulate, rows, raster}
 use lib.Seq.{getD-at, set-at, take-at, drop-at, drop-cons, append-snoc, drop-drop, take-append-le, drop-append-le, take-all, getD-take, getD-drop, ext-getD}
@@ -180,6 +181,11 @@ module _ {A : Type 0} where
   rows-cong zero r r′ h = refl
   rows-cong (suc m) r r′ h =
       ap₂ (λ (x y : List A). x ++ y) (rows-cong m r r′ (λ j p. h j (omega arith))) (h m (omega arith))
+
+  -- a fold over rows goes on with the next row
+  pub fold-rows : {B : Type 0} (f : B → A → B) (b : B) (n : ℕ) (g : ℕ → List A) → foldl f b (rows (n + 1) g) ≡ foldl f (foldl f b (rows n g)) (g n)
+  unfolding rows
+  fold-rows f b n g = rw add-one (foldl-append f b (rows n g) (g n))
 
   -- ---- raster order
 

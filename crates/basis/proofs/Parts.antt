@@ -198,3 +198,7 @@ diff-mul x k = record { same = omega (arith, above-mul x k, below-mul x k) }
 pub above-quot : (z : ℤ) (m : ℕ) → above (quotZ z (pos m)) ≡ above z / m
 above-quot (pos a) m = refl
 above-quot (negsuc a) m = above-neg (pos (suc a / m)) ∙ sym (zero-div m)
+
+pub below-quot : (z : ℤ) (m : ℕ) → below (quotZ z (pos m)) ≡ below z / m
+below-quot (pos a) m = sym (zero-div m)
+below-quot (negsuc a) m = below-neg (pos (suc a / m))

@@ -1,7 +1,7 @@
 -- A signed local holds bits, so each test and cast of it speaks of what the machine reads back from them, `toZ w (ofZ w z)`.
 -- These laws take such a fact to the number's two parts, which `omega` reads. A literal's bits are `ofZ w` of it by computation.
 -- Assumes nothing.
-use Prim.Native.Nat.{ℕ, zero, suc, _+_, _<_, _≤_, _^_}
+use Prim.Native.Nat.{ℕ, zero, suc, _+_, _-_, _<_, _≤_, _^_}
 use native.Mathlib.Omega.{arith}
 use mathlib.Core.Bool.{Bool, true, false}
 use mathlib.Core.Path.{_≡_, sym, ap, ap₂, _∙_, subst}
@@ -13,7 +13,7 @@ use mir.Val.{SFits, Fits, toZ, ofZ, bits, hbits}
 use mir.ValLaws.{toZ-ofZ, toZ-pos}
 use mir.Facts.{fits-natAbs, sfits-lit}
 use Rattle.basis.specs.Parts.{above, below}
-use Rattle.basis.proofs.Parts.{lt-parts, le-parts, parts-lt, parts-le, below-nonNeg, natAbs-above, above-sub, below-sub, parts-fit, fits-above, fits-below}
+use Rattle.basis.proofs.Parts.{sides, lt-parts, le-parts, parts-lt, parts-le, above-sub, below-sub, parts-fit, fits-above, fits-below, below-nonNeg, natAbs-above}
 
 yes : {t : Bool} → t ≡ true → T t
 yes e = subst T (sym e) tt
@@ -84,3 +84,28 @@ turned-fits w x f =
     parts-fit (negsuc 0 -ℤ x)
     (omega (arith, above-sub (negsuc 0) x, fits-above x f, fits-below x f))
     (omega (arith, below-sub (negsuc 0) x, fits-above x f))
+
+-- the difference of two numbers at 32 bits, as the code's `a as i32 - b as i32` gives it
+module _ (a b : ℕ) (h : a < 2 ^ 31) (k : b < 2 ^ 31) where
+  minus-is : toZ w32 a -ℤ toZ w32 b ≡ pos a -ℤ pos b
+  minus-is = ap₂ _-ℤ_ (toZ-pos w32 a h) (toZ-pos w32 b k)
+
+  pub minus-above : above (toZ w32 a -ℤ toZ w32 b) ≡ a - b
+  minus-above = ap above minus-is ∙ above-sub (pos a) (pos b) ∙ omega arith
+
+  pub minus-below : below (toZ w32 a -ℤ toZ w32 b) ≡ b - a
+  minus-below = ap below minus-is ∙ below-sub (pos a) (pos b) ∙ omega arith
+
+  pub minus-fits : SFits w32 (toZ w32 a -ℤ toZ w32 b)
+  minus-fits = parts-fit (toZ w32 a -ℤ toZ w32 b) (omega (arith, minus-above)) (omega (arith, minus-below))
+
+-- a number with its sign turned, as the code's `0 - x` gives it
+module _ (w : Width) (x : ℤ) (f : SFits w x) where
+  turned-is : pos 0 -ℤ toZ w (ofZ w x) ≡ pos 0 -ℤ x
+  turned-is = ap (λ (z : ℤ). pos 0 -ℤ z) (toZ-ofZ w x f)
+
+  pub turned-above : above (pos 0 -ℤ toZ w (ofZ w x)) ≡ below x
+  turned-above = ap above turned-is ∙ above-sub (pos 0) x ∙ omega (arith, sides x)
+
+  pub turned-below : below (pos 0 -ℤ toZ w (ofZ w x)) ≡ above x
+  turned-below = ap below turned-is ∙ below-sub (pos 0) x ∙ omega (arith, sides x)

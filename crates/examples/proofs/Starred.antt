@@ -5,8 +5,9 @@ use Rattle.basis.specs.Lists.{tabulate}
 use Rattle.quantise.specs.Level.{levelOf, levelByWeight, inverseOf}
 use Rattle.scan.specs.Event.{lastsArea, runsArea, levelsArea}
 use Rattle.scan.specs.Grid.{zigzag, gridOf, scanned}
-use Rattle.examples.specs.Starred.{taps, reflections, levels, scannedLevels, events, starred}
+use Rattle.search.specs.Range.{range, low, high, clampZ}
+use Rattle.examples.specs.Starred.{ranges, taps, reflections, levels, scannedLevels, events, starred}
 
 pub examples : T starred
-unfolding starred taps reflections levels events scannedLevels mirror weighted fir levelOf levelByWeight inverseOf scanned gridOf zigzag tabulate lastsArea runsArea levelsArea
+unfolding starred ranges taps reflections levels events scannedLevels range low high clampZ mirror weighted fir levelOf levelByWeight inverseOf scanned gridOf zigzag tabulate lastsArea runsArea levelsArea
 examples = tt

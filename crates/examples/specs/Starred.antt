@@ -15,6 +15,10 @@ use Rattle.quarter_sample.specs.Filter.{mirror, fir, largest}
 use Rattle.quantise.specs.Level.{levelOf, levelByWeight, inverseOf}
 use Rattle.scan.specs.Event.{eventsOf, lastsArea, runsArea, levelsArea}
 use Rattle.scan.specs.Grid.{gridOf, scanned}
+use Rattle.record.specs.declared.MotionVector.{MotionVector}
+use Rattle.search.specs.Range.{low, high}
+use Rattle.search.specs.Sub.{start}
+use Rattle.search.specs.Estimate.{modeOf}
 
 abbrev pub equalZ : ℤ → ℤ → Bool
 equalZ a b = leZ a b && leZ b a
@@ -25,6 +29,22 @@ halves s whole false = equalZ (s .whole) whole && not (s .half)
 
 abbrev pub quarters : QuarterPel → ℤ → ℕ → Bool
 quarters s whole fraction = equalZ (s .whole) whole && eqb (s .fraction) fraction
+
+-- where the sub-sample search of quarter mode, mode 1, starts at fcode 1 from full +8 across and -8 down
+abbrev pub quarterStart : MotionVector
+quarterStart = start (modeOf 1 8) 1 (record { x = pos 8; y = negsuc 7 })
+
+unfoldable pub ranges : List Bool
+ranges =
+    -- fcode 1: -32 .. 31; fcode 7: -2,048 .. 2,047
+    equalZ (low 1) (negsuc 31)
+    ∷ equalZ (high 1) (pos 31)
+    ∷ equalZ (low 7) (negsuc 2047)
+    ∷ equalZ (high 7) (pos 2047)
+    -- quarter, fcode 1: full +8 starts at 31, -8 at -32
+    ∷ equalZ (quarterStart .x) (pos 31)
+    ∷ equalZ (quarterStart .y) (negsuc 31)
+    ∷ []
 
 abbrev pub splits : List Bool
 splits =
@@ -100,4 +120,4 @@ hold (t ∷ ts) = t && hold ts
 
 -- all of it
 unfoldable pub starred : Bool
-starred = hold splits && hold averages && hold taps && hold reflections && hold levels && hold events
+starred = hold ranges && hold splits && hold averages && hold taps && hold reflections && hold levels && hold events

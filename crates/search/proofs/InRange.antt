@@ -1,0 +1,128 @@
+-- Vectors in range, as clamping makes them, and what their parts are then at most. Assumes nothing.
+use Prim.Native.Nat.{ℕ, zero, suc, _+_, _-_, _*_, _^_, _≤_, _<_}
+use native.Mathlib.Omega.{arith}
+use mathlib.Core.Bool.{Bool, true, false, cond, _&&_}
+use mathlib.Core.Path.{_≡_, refl, sym, ap, _∙_}
+use lib.Dec.{T}
+use lib.IntN.{ℤ, pos, negsuc, negℤ}
+use lib.Signed.{ltZ, leZ}
+use Rattle.basis.specs.Parts.{above, below}
+use Rattle.basis.proofs.Case.{both}
+use Rattle.basis.proofs.Parts.{sides, above-neg, below-neg, parts-le}
+use Rattle.basis.proofs.Signed.{lt-true, lt-false, le-true}
+use Rattle.refusal.specs.Test.{between, inRange}
+use Rattle.refusal.proofs.Tests.{and-left, and-right, between-low, between-high, range-low, range-high}
+use Rattle.record.specs.declared.MotionVector.{MotionVector}
+use Rattle.plane.specs.Reference.{vectorInRange}
+use Rattle.search.specs.Range.{range, low, high, vectorIn, clampZ, clamped}
+use Rattle.search.specs.Told.{Within}
+
+power : (n : ℕ) → 1 ≤ 2 ^ n
+power zero = omega arith
+power (suc n) = omega (arith, power n)
+
+pub range-least : (fcode : ℕ) → 32 ≤ range fcode
+unfolding range
+range-least fcode = omega (arith, power (fcode - 1))
+
+power-upto : (k n : ℕ) → n ≤ k → 2 ^ n ≤ 2 ^ k
+power-upto zero zero h = omega arith
+power-upto zero (suc n) h = absurd (none h)
+  where
+    none : suc n ≤ 0 → ⊥
+    none h = omega arith
+power-upto (suc k) zero h = omega (arith, power (suc k))
+power-upto (suc k) (suc n) h = omega (arith, power-upto k n (omega arith))
+
+-- fcode 7 has the widest range
+pub range-most : (fcode : ℕ) → between 1 7 fcode ≡ true → range fcode ≤ 2048
+unfolding range
+range-most fcode e =
+    let h : fcode - 1 ≤ 6 = omega (arith, between-high 1 7 fcode e) in
+    omega (arith, power-upto 6 (fcode - 1) h)
+
+-- the ends' parts
+low-below : (fcode : ℕ) → below (low fcode) ≡ range fcode
+unfolding low
+low-below fcode = below-neg (pos (range fcode))
+
+low-above : (fcode : ℕ) → above (low fcode) ≡ 0
+unfolding low
+low-above fcode = above-neg (pos (range fcode))
+
+high-above : (fcode : ℕ) → above (high fcode) ≡ range fcode - 1
+unfolding high
+high-above fcode = refl
+
+high-below : (fcode : ℕ) → below (high fcode) ≡ 0
+unfolding high
+high-below fcode = refl
+
+holds : (t : Bool) → T t → t ≡ true
+holds true h = refl
+holds false h = absurd h
+
+le-is : (x y : ℤ) → above x + below y ≤ above y + below x → leZ x y ≡ true
+le-is x y h = holds (leZ x y) (parts-le x y h)
+
+module _ (least most : ℤ) (ordered : above least + below most ≤ above most + below least) where
+  -- a clamped number lies between the ends
+  clamp-in : (z : ℤ) → inRange least most (clampZ least most z) ≡ true
+  unfolding clampZ
+  clamp-in z = at (ltZ z least) (ltZ most z) refl refl
+    where
+      at : (s t : Bool) → ltZ z least ≡ s → ltZ most z ≡ t → inRange least most (cond s least (cond t most z)) ≡ true
+      at true t p q = both (le-is least least (omega arith)) (le-is least most ordered)
+      at false true p q = both (le-is least most ordered) (le-is most most (omega arith))
+      at false false p q = both (le-is least z (lt-false z least p)) (le-is z most (lt-false most z q))
+
+ordered : (fcode : ℕ) → above (low fcode) + below (high fcode) ≤ above (high fcode) + below (low fcode)
+ordered fcode = omega (arith, low-above fcode, high-below fcode)
+
+-- a clamped vector is in range
+pub clamped-in : (fcode : ℕ) (v : MotionVector) → vectorIn fcode (clamped fcode v) ≡ true
+clamped-in fcode v = both (clamp-in (low fcode) (high fcode) (ordered fcode) (v .x)) (clamp-in (low fcode) (high fcode) (ordered fcode) (v .y))
+
+record Bounded (n : ℕ) (z : ℤ) : Type 0 where
+  up : above z ≤ n - 1
+  down : below z ≤ n
+
+bounded : (fcode : ℕ) (z : ℤ) → inRange (low fcode) (high fcode) z ≡ true → Bounded (range fcode) z
+bounded fcode z e =
+    let l = range-low (low fcode) (high fcode) z e in
+    let h = range-high (low fcode) (high fcode) z e in
+    record {
+      up = omega (arith, l, h, low-above fcode, low-below fcode, high-above fcode, high-below fcode, sides z);
+      down = omega (arith, l, h, low-above fcode, low-below fcode, high-above fcode, high-below fcode, sides z, range-least fcode);
+    }
+
+module _ (fcode : ℕ) (v : MotionVector) (f : between 1 7 fcode ≡ true) (e : vectorIn fcode v ≡ true) where
+  across : Bounded (range fcode) (v .x)
+  across = bounded fcode (v .x) (and-left (inRange (low fcode) (high fcode) (v .x)) (inRange (low fcode) (high fcode) (v .y)) e)
+
+  along : Bounded (range fcode) (v .y)
+  along = bounded fcode (v .y) (and-right (inRange (low fcode) (high fcode) (v .x)) (inRange (low fcode) (high fcode) (v .y)) e)
+
+  -- a vector in range can be added to
+  pub in-within : Within 2048 v
+  in-within =
+      let m = range-most fcode f in
+      record {
+        x-above = omega (arith, m, across .up);
+        x-below = omega (arith, m, across .down);
+        y-above = omega (arith, m, along .up);
+        y-below = omega (arith, m, along .down);
+      }
+
+  one : (z : ℤ) → Bounded (range fcode) z → inRange (negsuc 2047) (pos 2047) z ≡ true
+  one z b =
+      let m = range-most fcode f in
+      both (le-is (negsuc 2047) z (omega (arith, m, b .down))) (le-is z (pos 2047) (omega (arith, m, b .up, range-least fcode)))
+
+  -- and interpolation takes it
+  pub in-interpolation : vectorInRange v ≡ true
+  in-interpolation = both (one (v .x) across) (one (v .y) along)
+
+pub wider : {m n : ℕ} {d : MotionVector} → m ≤ n → Within m d → Within n d
+wider h w =
+    record { x-above = omega (arith, w .x-above); x-below = omega (arith, w .x-below); y-above = omega (arith, w .y-above); y-below = omega (arith, w .y-below) }

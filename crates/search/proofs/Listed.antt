@@ -1,0 +1,40 @@
+-- Whether a displacement is listed, and what a search that meets it keeps. Assumes nothing.
+use Prim.Native.Nat.{ℕ, _-_, _<_, _≤_}
+use mathlib.Core.Bool.{Bool, true, false, cond, _&&_}
+use mathlib.Core.List.{List, [], _∷_, foldl}
+use mathlib.Core.Path.{_≡_, refl, sym, ap, ap₂, _∙_}
+use lib.Dec.{leb, ltb, eqb}
+use borrow.Author.Tests.{le-leb, lt-leb, eq-eqb, ne-eqb}
+use Rattle.basis.proofs.Case.{then, else, both, first-fails, second-fails}
+use Rattle.record.specs.declared.MotionVector.{MotionVector}
+use Rattle.search.specs.declared.Scored.{Scored}
+use Rattle.search.specs.Places.{distance, listed}
+use Rattle.search.specs.Full.{discounted}
+use Rattle.search.specs.Sub.{scored}
+use Rattle.search.specs.Told.{consider}
+
+module _ (near far : ℕ) (d : MotionVector) where
+  pub too-near : distance d < near → listed near far d ≡ []
+  unfolding listed
+  too-near h = else (leb near (distance d) && leb (distance d) far) (d ∷ []) [] (first-fails (leb (distance d) far) (lt-leb near (distance d) h))
+
+  pub too-far : far < distance d → listed near far d ≡ []
+  unfolding listed
+  too-far h = else (leb near (distance d) && leb (distance d) far) (d ∷ []) [] (second-fails (leb near (distance d)) (lt-leb (distance d) far h))
+
+  pub is-listed : near ≤ distance d → distance d ≤ far → listed near far d ≡ d ∷ []
+  unfolding listed
+  is-listed h k = then (leb near (distance d) && leb (distance d) far) (d ∷ []) [] (both (le-leb near (distance d) h) (le-leb (distance d) far k))
+
+-- what is considered at one cost is considered at another that is the same there
+pub consider-cost : (f g : MotionVector → ℕ) (s : Scored) (v : MotionVector) → f v ≡ g v → consider f s v ≡ consider g s v
+unfolding consider
+consider-cost f g s v e = ap (λ (n : ℕ). cond (ltb n (s .cost)) (scored v n) s) e
+
+-- zero costs less, any other displacement its sum
+module _ (discount : ℕ) (sum : MotionVector → ℕ) (d : MotionVector) where
+  pub zero-costs : distance d ≡ 0 → discounted discount sum d ≡ sum d - discount
+  zero-costs h = then (eqb (distance d) 0) (sum d - discount) (sum d) (eq-eqb (distance d) 0 h)
+
+  pub other-costs : (distance d ≡ 0 → ⊥) → discounted discount sum d ≡ sum d
+  other-costs h = else (eqb (distance d) 0) (sum d - discount) (sum d) (ne-eqb (distance d) 0 h)

@@ -1,0 +1,220 @@
+-- `search::full::lattice_search` meets its contract. Assumes nothing.
+use Prim.Native.Nat.{ℕ, _+_, _-_, _*_, _/_, _≤_, _<_, min}
+use native.Mathlib.Omega.{arith}
+use mathlib.Core.List.{List, foldl}
+use mathlib.Core.Path.{_≡_, refl, sym, ap, ap₂, _∙_, subst}
+use lib.IntN.{pos, negℤ}
+use lib.ListN.{length, take, length-take}
+use borrow.Author.Needs.{needs}
+use Rattle.basis.specs.Lists.{rows}
+use Rattle.basis.proofs.Lists.{fold-rows}
+use Rattle.basis.proofs.Slices.{put-length}
+use Rattle.basis.proofs.Parts.{above-neg, below-neg}
+use Rattle.record.specs.declared.MotionVector.{MotionVector}
+use Rattle.plane.specs.Plane.{planeOf}
+use Rattle.plane.proofs.Ready.{usable}
+use Rattle.search.specs.declared.Scored.{Scored}
+use Rattle.search.specs.Places.{down, rowOf, back, places, latticeFrom, lattice}
+use Rattle.search.specs.Full.{discounted}
+use Rattle.search.specs.Told.{Within, consider, blockOf, copiedSum}
+use Rattle.search.proofs.InRange.{wider}
+use Rattle.search.proofs.Moves.{down-within}
+use Rattle.search.proofs.full.lattice_search.Statement.{statement}
+use Rattle.search.proofs.full.lattice_search.Tie as tie
+
+-- row j of the lattice
+abbrev lineOf : MotionVector → ℕ → ℕ → ℕ → List MotionVector
+lineOf from count w j = rowOf (record { from = down from (4 * j); step = 4; count = count; near = 9; far = w })
+
+abbrev Inv-loop : tie.InvT-loop
+Inv-loop source reference geometry x y w strip₀ from count lines size b₀ j₀ strip b j =
+    (j ≤ lines) × (length strip ≡ 33024)
+    × (b ≡ foldl (consider (discounted 128 (copiedSum (blockOf 16 source (planeOf reference geometry) x y)))) b₀ (rows j (lineOf from count w)))
+
+abbrev μ-loop : tie.MeasureT-loop
+μ-loop source reference geometry x y w strip₀ from count lines size b₀ j₀ strip b j = lines - j
+
+-- one row more
+turn : (f : Scored → MotionVector → Scored) (s b : Scored) (from d : MotionVector) (count w j : ℕ) → b ≡ foldl f s (rows j (lineOf from count w)) → d ≡ down from (4 * j)
+    → foldl f b (rowOf (record { from = d; step = 4; count = count; near = 9; far = w })) ≡ foldl f s (rows (j + 1) (lineOf from count w))
+turn f s b from d count w j e g =
+    ap₂ (λ (b : Scored) (d : MotionVector). foldl f b (rowOf (record { from = d; step = 4; count = count; near = 9; far = w }))) e g
+    ∙ sym (fold-rows f s j (lineOf from count w))
+
+-- there are at most 512 places, and the first is inside the window
+few : (w m size n : ℕ) → w ≤ 1023 → n ≡ places w m size → n ≤ 512
+few w m size n h e = omega (arith, e)
+
+first-within : (w mx my : ℕ) → w ≤ 1023 → Within 1023 (latticeFrom w mx my)
+first-within w mx my h =
+    record {
+      x-above = omega (arith, above-neg (pos (back w mx)));
+      x-below = omega (arith, below-neg (pos (back w mx)));
+      y-above = omega (arith, above-neg (pos (back w my)));
+      y-below = omega (arith, below-neg (pos (back w my)));
+    }
+
+-- a strip has room
+fit : (n m : ℕ) → n ≤ 512 → m ≡ 33024 → (16 + 4 * n) * 16 ≤ m
+fit n m h e = omega arith
+
+strip-is : (n m : ℕ) → n ≤ 512 → m ≡ 33024 → min ((16 + 4 * n) * 16 - 0) m ≡ (16 + 4 * n) * 16
+strip-is n m h e = omega arith
+
+less-all : (n : ℕ) → 0 ≤ n
+less-all n = omega arith
+
+abbrev start : (c : tie.In-loop Inv-loop μ-loop) → tie.Start Inv-loop μ-loop
+start c = c .before .before .before .before .before .before .before
+
+columns : (c : tie.In-loop Inv-loop μ-loop) → c .before .before .before .places .result ≤ 512
+columns c =
+    let s = start c in
+    few (s .args .w) (s .args .x) (s .args .geometry .width) _ (s .pre .1) (c .before .before .before .places .ensures)
+
+lines : (c : tie.In-loop Inv-loop μ-loop) → c .before .before .places2 .result ≤ 512
+lines c =
+    let s = start c in
+    few (s .args .w) (s .args .y) (s .args .geometry .height) _ (s .pre .1) (c .before .before .places2 .ensures)
+
+lattice-from-requires : tie.Need-lattice-from-requires Inv-loop μ-loop
+lattice-from-requires c κs =
+    let s = c .before .before in
+    (s .pre .1, s .pre .0 .x-max, s .pre .0 .y-max)
+
+places-requires : tie.Need-places-requires Inv-loop μ-loop
+places-requires c κs =
+    let s = c .before .before .before in
+    (s .pre .1, s .pre .0 .x-max, usable (s .args .reference .now) (s .args .geometry) (s .pre .0 .reference) .within .high-w)
+
+places-requires-2 : tie.Need-places-requires-2 Inv-loop μ-loop
+places-requires-2 c κs =
+    let s = c .before .before .before .before in
+    (s .pre .1, s .pre .0 .y-max, usable (s .args .reference .now) (s .args .geometry) (s .pre .0 .reference) .within .high-h)
+
+few-columns : (c : tie.After-places2 Inv-loop μ-loop) → c .before .places .result ≤ 512
+few-columns c =
+    let s = c .before .before .before .before .before in
+    few (s .args .w) (s .args .x) (s .args .geometry .width) _ (s .pre .1) (c .before .places .ensures)
+
+mul-size : tie.Need-mul-size Inv-loop μ-loop
+mul-size c = record { fits = omega (arith, few-columns c) }
+
+add-size : tie.Need-add-size Inv-loop μ-loop
+add-size c = record { fits = omega (arith, few-columns c) }
+
+mul-size-2 : tie.Need-mul-size-2 Inv-loop μ-loop
+mul-size-2 c = record { fits = omega (arith, few-columns c) }
+
+loop-holds : tie.Need-loop-holds Inv-loop μ-loop
+unfolding rows
+loop-holds c = (less-all _, refl, refl)
+
+mul-down : tie.Need-mul-down Inv-loop μ-loop
+mul-down c = record { fits = omega (arith, lines c, c .loop-test .taken) }
+
+down-requires : tie.Need-down-requires Inv-loop μ-loop
+down-requires c κs =
+    let s = start c in
+    (subst (Within 4096) (sym (c .before .before .before .before .lattice-from .ensures)) (wider (omega arith) (first-within (s .args .w) (s .args .x) (s .args .y) (s .pre .1))), omega (arith, lines c, c .loop-test .taken))
+
+run : (n : ℕ) → n ≤ 512 → 4 * n ≤ 4096
+run n h = omega arith
+
+moved : (c : tie.In-loop Inv-loop μ-loop) → Within 4096 (down (c .before .before .before .before .lattice-from .result) (4 * c .before .loop .j))
+moved c =
+    let s = start c in
+    subst (λ (d : MotionVector). Within 4096 (down d (4 * c .before .loop .j))) (sym (c .before .before .before .before .lattice-from .ensures))
+    (down-within 1023 4096 (latticeFrom (s .args .w) (s .args .x) (s .args .y)) (4 * c .before .loop .j) (far (c .before .loop .j) _ (c .loop-test .taken) (lines c)) (first-within (s .args .w) (s .args .x) (s .args .y) (s .pre .1)))
+  where
+    far : (j n : ℕ) → j < n → n ≤ 512 → 1023 + 4 * j ≤ 4096
+    far j n h k = omega arith
+
+sub-strip-search : tie.Need-sub-strip-search Inv-loop μ-loop
+sub-strip-search c = less-all _
+
+part-strip-start : tie.Need-part-strip-start Inv-loop μ-loop
+part-strip-start c = less-all _
+
+part-strip-end : tie.Need-part-strip-end Inv-loop μ-loop
+part-strip-end c =
+    let l = c .before in
+    fit _ _ (columns l) (l .before .loop .inv .1)
+
+strip-search-requires : tie.Need-strip-search-requires Inv-loop μ-loop
+strip-search-requires c κs =
+    let k = c .before in
+    let l = k .before in
+    let s = start l in
+    (s .pre .0, subst (Within 4096) (sym (k .down .ensures)) (moved l), run _ (columns l), s .pre .1, simp (length-take) (strip-is _ _ (columns l) (l .before .loop .inv .1)))
+
+lent : (k : tie.After-strip-search Inv-loop μ-loop) → 0 + length (k .strip-search .last .1 .1 .1 .1 .1 .1 .0) ≡ (16 + 4 * k .before .before .before .before .before .before .places .result) * 16
+lent k =
+    let l = k .before .before .before in
+    let n = (16 + 4 * l .before .before .before .places .result) * 16 in
+    let same : length (k .strip-search .last .1 .1 .1 .1 .1 .1 .0) ≡ length (take (n - 0) (l .before .loop .strip)) = search needs in
+    none (length (k .strip-search .last .1 .1 .1 .1 .1 .1 .0)) ∙ same ∙ length-take (n - 0) (l .before .loop .strip) ∙ strip-is _ _ (columns l) (l .before .loop .inv .1)
+  where
+    none : (n : ℕ) → 0 + n ≡ n
+    none n = omega arith
+
+add-j : tie.Need-add-j Inv-loop μ-loop
+add-j c = omega (arith, c .before .before .before .before .loop-test .taken, lines (c .before .before .before .before))
+
+loop-less : tie.Need-loop-less Inv-loop μ-loop
+loop-less c = shrinks (l c .before .loop .j) _ (l c .loop-test .taken)
+  where
+    l : (c : tie.After-strip2 Inv-loop μ-loop) → tie.In-loop Inv-loop μ-loop
+    l c = c .before .before .before .before
+
+    shrinks : (j n : ℕ) → j < n → n - (j + 1) < n - j
+    shrinks j n h = omega arith
+
+loop-again : tie.Need-loop-again Inv-loop μ-loop
+loop-again c =
+    let k = c .before in
+    let l = k .before .before .before in
+    let s = start l in (
+      omega (arith, l .loop-test .taken),
+      put-length (l .before .loop .strip) (k .strip-search .last .1 .1 .1 .1 .1 .1 .0) 0 ((16 + 4 * l .before .before .before .places .result) * 16) (lent k) (fit _ _ (columns l) (l .before .loop .inv .1)) ∙ l .before .loop .inv .1,
+      k .strip-search .ensures
+          ∙ turn (consider (discounted 128 (copiedSum (blockOf 16 (s .args .source .now) (planeOf (s .args .reference .now) (s .args .geometry)) (s .args .x) (s .args .y))))) (s .args .best) (l .before .loop .b) (l .before .before .before .before .lattice-from .result) (k .before .before .down .result) (l .before .before .before .places .result) (s .args .w) (l .before .loop .j) (l .before .loop .inv .2) (k .before .before .down .ensures),
+    )
+
+returns : tie.Need-returns Inv-loop μ-loop
+unfolding lattice
+returns c =
+    let a = c .before .before .before in
+    let f = a .before in
+    let s = f .before .before .before in
+    let g = consider (discounted 128 (copiedSum (blockOf 16 (s .args .source .now) (planeOf (s .args .reference .now) (s .args .geometry)) (s .args .x) (s .args .y)))) in
+    c .before .loop .inv .2
+    ∙ ap (λ (n : ℕ). foldl g (s .args .best) (rows n (lineOf (f .lattice-from .result) (a .places .result) (s .args .w)))) (last _ _ (c .loop-test .left) (c .before .loop .inv .0) ∙ c .before .before .places2 .ensures)
+    ∙ ap₂ (λ (d : MotionVector) (n : ℕ). foldl g (s .args .best) (rows (places (s .args .w) (s .args .y) (s .args .geometry .height)) (lineOf d n (s .args .w)))) (f .lattice-from .ensures) (a .places .ensures)
+  where
+    last : (j n : ℕ) → n ≤ j → j ≤ n → j ≡ n
+    last j n h k = omega arith
+
+pub lattice-search-spec : {M : Type 1} → statement M
+lattice-search-spec =
+    tie.close
+    (tie.spec
+    Inv-loop
+    μ-loop
+    lattice-from-requires
+    places-requires
+    places-requires-2
+    mul-size
+    add-size
+    mul-size-2
+    loop-holds
+    mul-down
+    down-requires
+    sub-strip-search
+    part-strip-start
+    part-strip-end
+    strip-search-requires
+    add-j
+    loop-less
+    loop-again
+    returns)

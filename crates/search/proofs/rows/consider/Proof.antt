@@ -1,0 +1,16 @@
+-- `search::rows::consider` meets its contract. Assumes nothing.
+use borrow.Author.Tests.{lt-ltb, le-ltb}
+use Rattle.search.specs.Told.{consider}
+use Rattle.search.proofs.rows.consider.Statement.{statement}
+use Rattle.search.proofs.rows.consider.Tie as tie
+
+returns : tie.Need-returns
+unfolding consider
+returns c = simp (lt-ltb _ _ (c .if1 .taken))
+
+returns-2 : tie.Need-returns-2
+unfolding consider
+returns-2 c = simp (le-ltb _ _ (c .if1 .left))
+
+pub consider-spec : {M : Type 1} → statement M
+consider-spec = tie.close (tie.spec returns returns-2)

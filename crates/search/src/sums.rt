@@ -1,0 +1,93 @@
+// Sums of absolute differences. A row is one `psadbw`: the difference is signed and 32 bits wide, and two rows are added a turn,
+// since the compiler takes a loop of single rows apart by columns.
+ghost use mathlib.Core.Path.{_≡_};
+ghost use mathlib.Core.Bool.{true};
+ghost use Prim.Native.Nat.{_+_, _-_, _*_, _≤_};
+ghost use lib.ListN.{length, getD};
+ghost use Rattle.basis.specs.Sums.{sumTo};
+ghost use Rattle.plane.specs.Reference.{isSide};
+ghost use Rattle.search.specs.Sums.{absDiff};
+ghost use Rattle.search.specs.Told.{rowSum, windowSum};
+
+fn difference(a: u8, b: u8) -> u32
+    ensures { λ r. ⌜ (r ≡ absDiff a b) × (r ≤ 255) ⌝ }
+{
+    let d = a as i32 - b as i32;
+    if d < 0 { (0 - d) as u32 } else { d as u32 }
+}
+
+fn row_16(a: &[u8], b: &[u8]) -> u32
+    requires { ⌜ (length (now a) ≡ 16) × (length (now b) ≡ 16) ⌝ }
+    ensures { λ r. ⌜ (r ≡ sumTo 16 (λ i. absDiff (getD (now (a .entry)) i 0) (getD (now (b .entry)) i 0))) × (r ≤ 4080) ⌝ }
+{
+    let mut sum: u32 = 0;
+    for i in 0..16 {
+        sum += difference(a[i], b[i]);
+    }
+    sum
+}
+
+fn row_8(a: &[u8], b: &[u8]) -> u32
+    requires { ⌜ (length (now a) ≡ 8) × (length (now b) ≡ 8) ⌝ }
+    ensures { λ r. ⌜ (r ≡ sumTo 8 (λ i. absDiff (getD (now (a .entry)) i 0) (getD (now (b .entry)) i 0))) × (r ≤ 4080) ⌝ }
+{
+    let mut sum: u32 = 0;
+    for i in 0..8 {
+        sum += difference(a[i], b[i]);
+    }
+    sum
+}
+
+// Row j of 16 samples.
+fn row_at_16(source: &[u8], window: &[u8], at: usize, stride: usize, j: usize) -> u32
+    requires { ⌜ (j * 16 + 16 ≤ length (now source)) × (at + j * stride + 16 ≤ length (now window)) ⌝ }
+    ensures { λ r. ⌜ (r ≡ rowSum 16 (now (source .entry)) (now (window .entry)) at stride j) × (r ≤ 4080) ⌝ }
+{
+    let s = j * 16;
+    let w = at + j * stride;
+    row_16(&source[s..s + 16], &window[w..w + 16])
+}
+
+fn row_at_8(source: &[u8], window: &[u8], at: usize, stride: usize, j: usize) -> u32
+    requires { ⌜ (j * 8 + 8 ≤ length (now source)) × (at + j * stride + 8 ≤ length (now window)) ⌝ }
+    ensures { λ r. ⌜ (r ≡ rowSum 8 (now (source .entry)) (now (window .entry)) at stride j) × (r ≤ 4080) ⌝ }
+{
+    let s = j * 8;
+    let w = at + j * stride;
+    row_8(&source[s..s + 8], &window[w..w + 8])
+}
+
+fn block_16(source: &[u8], window: &[u8], at: usize, stride: usize) -> u32
+    requires { ⌜ (length (now source) ≡ 256) × (at + 15 * stride + 16 ≤ length (now window)) ⌝ }
+    ensures { λ r. ⌜ r ≡ windowSum 16 (now (source .entry)) (now (window .entry)) at stride ⌝ }
+{
+    let mut sum: u32 = 0;
+    for k in 0..8 {
+        let first = row_at_16(source, window, at, stride, 2 * k);
+        sum += first + row_at_16(source, window, at, stride, 2 * k + 1);
+    }
+    sum
+}
+
+fn block_8(source: &[u8], window: &[u8], at: usize, stride: usize) -> u32
+    requires { ⌜ (length (now source) ≡ 64) × (at + 7 * stride + 8 ≤ length (now window)) ⌝ }
+    ensures { λ r. ⌜ r ≡ windowSum 8 (now (source .entry)) (now (window .entry)) at stride ⌝ }
+{
+    let mut sum: u32 = 0;
+    for k in 0..4 {
+        let first = row_at_8(source, window, at, stride, 2 * k);
+        sum += first + row_at_8(source, window, at, stride, 2 * k + 1);
+    }
+    sum
+}
+
+// The sum of a source block of side 8 or 16 against the block at place `at` of a window whose rows are `stride` apart.
+pub fn block(source: &[u8], side: usize, window: &[u8], at: usize, stride: usize) -> u32
+    requires { ⌜ (isSide side ≡ true) × (length (now source) ≡ side * side) × (at + (side - 1) * stride + side ≤ length (now window)) ⌝ }
+    ensures { λ r. ⌜ r ≡ windowSum side (now (source .entry)) (now (window .entry)) at stride ⌝ }
+{
+    if side == 16 {
+        return block_16(source, window, at, stride);
+    }
+    block_8(source, window, at, stride)
+}
