@@ -1,5 +1,5 @@
 -- What holds where nothing is refused. Assumes nothing.
-use Prim.Native.Nat.{ℕ, _+_, _-_, _*_, _≤_}
+use Prim.Native.Nat.{ℕ, _+_, _-_, _*_, _≤_, _<_}
 use native.Mathlib.Omega.{arith}
 use mathlib.Core.Bool.{Bool, true, _&&_}
 use mathlib.Core.List.{List}
@@ -7,7 +7,7 @@ use mathlib.Core.Path.{_≡_, ap, ap₂, _∙_}
 use lib.Dec.{ltb, eqb}
 use lib.IntN.{pos, negsuc}
 use lib.ListN.{length}
-use borrow.Author.Tests.{ltb-true, eqb-true, eq-eqb}
+use borrow.Author.Tests.{ltb-true, lt-ltb, eqb-true, eq-eqb}
 use Rattle.basis.proofs.Bounds.{product-le}
 use Rattle.refusal.specs.declared.Refusal.the-variants.{ReferenceSize, ReferenceBytes, Place, Length, Choice}
 use Rattle.refusal.specs.declared.Reply.{Reply}
@@ -92,6 +92,17 @@ block-done g bytes v o w h area e f k p q =
     ∙ ap (λ (r : Reply). andThen r (andThen (lengthReply area w h) (sideReply w h))) f
     ∙ ap (λ (r : Reply). andThen r (sideReply w h)) (length-done area w h k)
     ∙ ap₂ (λ (s t : Bool). unless (s && t) Choice Done) p q
+
+-- sizes in bounds and samples enough
+pub reference-done : (g : Geometry) (bytes : ℕ) → sized g ≡ true → (g .height - 1) * g .stride + (g .width - 1) < bytes → referenceReply g bytes ≡ Done
+unfolding referenceReply
+reference-done g bytes e h =
+    ap₂ (λ (s t : Bool). unless s ReferenceSize (unless t ReferenceBytes Done)) e (lt-ltb ((g .height - 1) * g .stride + (g .width - 1)) bytes h)
+
+-- an origin and a vector in range
+pub motion-done : (v : MotionVector) (o : Point) → originInRange o ≡ true → vectorInRange v ≡ true → motionReply v o ≡ Done
+unfolding motionReply
+motion-done v o e f = ap₂ (λ (s t : Bool). unless (s && t) Place Done) e f
 
 -- a motion that is not refused starts in range
 pub origin-ready : (v : MotionVector) (o : Point) → motionReply v o ≡ Done → originInRange o ≡ true

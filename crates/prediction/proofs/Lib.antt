@@ -1,3 +1,4 @@
+pub mod LumaAt
 pub mod Ready
 pub mod Weave
 pub mod Whole

@@ -26,6 +26,8 @@ use Rattle.plane.specs.Reference.{originInRange, vectorInRange, motionReply, is
 use Rattle.prediction.specs.declared.BVopSampleMode.{BVopSampleMode}
 use Rattle.prediction.specs.Luma.{lumaSample, lumaBlock, lumaReply}
 use Rattle.prediction.specs.Macroblock.{modeReply}
+use Rattle.plane.proofs.Ready.{motion-done}
+use Rattle.prediction.proofs.LumaAt.{luma-at}
 use Rattle.prediction.proofs.Ready.{luma-done}
 use Rattle.search.specs.Sums.{absDiff, differences, vectorSum}
 use Rattle.search.specs.Told.{Ready, rowSum, windowSum, blockOf}
@@ -54,26 +56,18 @@ corner-in x y p q = both (le-leb x 4096 (omega arith)) (le-leb y 4096 (omega ari
 
 pub predicted-done : (m : BVopSampleMode) (side : ℕ) (source samples : List ℕ) (g : Geometry) (x y : ℕ) (v : MotionVector) (area : ℕ) → Ready side source samples g x y
     → modeReply m ≡ Done → vectorInRange v ≡ true → area ≡ side * side → lumaReply m g (length samples) v (cornerAt x y) side side area ≡ Done
-unfolding motionReply
 predicted-done m side source samples g x y v area r e f k =
     luma-done m g (length samples) v (cornerAt x y) side side area e (r .reference)
-    (ap (λ (t : Bool). unless t Place Done) (both (corner-in x y (r .x-max) (r .y-max)) f)) k (r .is-side) (r .is-side)
+    (motion-done v (cornerAt x y) (corner-in x y (r .x-max) (r .y-max)) f) k (r .is-side) (r .is-side)
 
--- against the raster of samples g
-raster-sum : (side : ℕ) (source : List ℕ) (g : ℕ → ℕ → ℕ)
-    → windowSum side source (raster side side g) 0 side ≡ differences side (λ i j. getD source (j * side + i) 0) g
-unfolding windowSum differences
-raster-sum side source g =
-    sumTo-cong side (rowSum side source (raster side side g) 0 side) (λ j. sumTo side (λ i. absDiff (getD source (j * side + i) 0) (g i j)))
-    (λ j q. sumTo-cong side
-    (λ i. absDiff (getD source (j * side + i) 0) (getD (raster side side g) (0 + j * side + i) 0))
-    (λ i. absDiff (getD source (j * side + i) 0) (g i j))
-    (λ i p. ap (absDiff (getD source (j * side + i) 0)) (ap (λ (n : ℕ). getD (raster side side g) (n + i) 0) (from-zero (j * side)) ∙ getD-raster side side g i j 0 p q)))
+-- the sum on a predicted block is the vector's
+pub predicted-sum : (m : BVopSampleMode) (side : ℕ) (source : List ℕ) (p : Plane) (x y : ℕ) (v : MotionVector)
+    → windowSum side source (lumaBlock m p v (cornerAt x y) side side 0) 0 side ≡ vectorSum m (blockOf side source p x y) v
+unfolding windowSum vectorSum differences
+predicted-sum m side source p x y v =
+    sumTo-cong side _ _
+    (λ j hj. sumTo-cong side _ _
+    (λ i hi. ap (absDiff (getD source (j * side + i) 0)) (ap (λ (n : ℕ). getD (lumaBlock m p v (cornerAt x y) side side 0) (n + i) 0) (from-zero (j * side)) ∙ luma-at m p v (cornerAt x y) side side 0 i j hi hj)))
   where
     from-zero : (n : ℕ) → 0 + n ≡ n
     from-zero n = omega arith
-
-pub predicted-sum : (m : BVopSampleMode) (side : ℕ) (source : List ℕ) (p : Plane) (x y : ℕ) (v : MotionVector)
-    → windowSum side source (lumaBlock m p v (cornerAt x y) side side 0) 0 side ≡ vectorSum m (blockOf side source p x y) v
-unfolding lumaBlock vectorSum
-predicted-sum m side source p x y v = raster-sum side source (lumaSample m p v (cornerAt x y) side side 0)
