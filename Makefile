@@ -10,11 +10,18 @@ LIBDIR := target/staticlib
 LIBRARY := $(LIBDIR)/libhencouch.a
 SOURCES := $(wildcard crates.txt) $(shell find crates -path '*/src/*' -name '*.rt' 2>/dev/null)
 ORIGINALS := half_sample.rs quarter_sample.rs fdct.rs inverse_quant.rs quantise.rs scan.rs
-# Functions of ivop_encode.rs, which as a whole wants files that are not to be had.
-CUT := scan_positions forward_scan qfs_to_events
+# Functions and constants of files that as a whole want others that are not to be had.
+CUT_FILES := ivop_encode pvop_encode
+CUT_ivop_encode := scan_positions forward_scan qfs_to_events
+CUT_pvop_encode := SEARCH_RANGE mv_range search_window_pels sad_full_pel units_per_pel sad_subpel \
+  full_pel_window refine_subpel estimate_motion sad_full_pel_block8 sad_subpel_block8 \
+  estimate_motion_4mv
+# The functions of the search by a part of their names, and how often psadbw has to be in them.
+SEARCH_CODE := search|estimate_motion
+PSADBW := 4
 RUST := rustc --edition 2021 -C opt-level=3 -C codegen-units=1 -L native=$(LIBDIR)
 
-.PHONY: help test staticlib compare bench call originals
+.PHONY: help test staticlib compare bench machine-code call originals
 .NOTPARALLEL:
 
 help:
@@ -22,6 +29,7 @@ help:
 	@echo 'make staticlib             the static library for C and Rust'
 	@echo 'make compare DOCS=FOLDER   the library against the original Rust, on random calls'
 	@echo 'make bench DOCS=FOLDER     the same two, timed side by side'
+	@echo 'make machine-code          whether the search sums by the instruction made for it'
 	@echo 'make call                  a C program that calls the library once'
 	@echo 'FOLDER has the originals as src/src/half_sample.rs and so on. ARGS="--seed N --valid N'
 	@echo '--refused N" gives compare another seed and other counts.'
@@ -36,27 +44,40 @@ staticlib:
 target/staticlib/libhencouch.a: $(SOURCES)
 	rt staticlib hencouch
 
+# $(call cut,FILE,NAMES): the parts with these names, unchanged. A function ends with its brace, a
+# constant with its line.
+define cut
+for name in $(2); do \
+	  sed -n -e "/^[a-z()]* *fn $$name[(<]/,/^}/p" -e "/^[a-z()]* *const $$name:/p" \
+	    $(DOCS)/src/src/$(1).rs; \
+	done > target/oracle/$(1)_cut.rs
+	test "$$(grep -c '^}\|^[a-z()]* *const ' target/oracle/$(1)_cut.rs)" = $(words $(2))
+
+endef
+
 # The originals, unchanged, beside the programs that name them as modules.
 originals:
 	$(if $(DOCS),,$(error DOCS is missing: the folder that has src/src/half_sample.rs))
-	$(foreach file,$(ORIGINALS) ivop_encode.rs,$(if $(wildcard $(DOCS)/src/src/$(file)),,\
+	$(foreach file,$(ORIGINALS) $(CUT_FILES:%=%.rs),$(if $(wildcard $(DOCS)/src/src/$(file)),,\
 	  $(error $(DOCS)/src/src/$(file) is missing: DOCS is to be the folder above src/src)))
 	rm -rf target/oracle
 	mkdir -p target/oracle
 	cp -R oracle/. target/oracle
 	cp $(ORIGINALS:%=$(DOCS)/src/src/%) target/oracle
-	for name in $(CUT); do \
-	  sed -n "/^[a-z()]* *fn $$name(/,/^}/p" $(DOCS)/src/src/ivop_encode.rs; \
-	done > target/oracle/ivop_encode_cut.rs
-	test "$$(grep -c '^}' target/oracle/ivop_encode_cut.rs)" = $(words $(CUT))
+	$(foreach file,$(CUT_FILES),$(call cut,$(file),$(CUT_$(file))))
 
 compare: originals $(LIBRARY)
 	$(RUST) -o target/oracle/compare target/oracle/compare.rs
 	target/oracle/compare $(ARGS)
 
-bench: originals $(LIBRARY)
+bench: machine-code originals $(LIBRARY)
 	$(RUST) -o target/oracle/bench target/oracle/bench.rs
 	target/oracle/bench
+
+# The sum of a block's differences is fast only while the compiler finds psadbw for it, which a
+# small change of the source can undo.
+machine-code: $(LIBRARY)
+	@objdump -d $(LIBRARY) | awk -v code='$(SEARCH_CODE)' -v least=$(PSADBW) -f oracle/psadbw.awk
 
 call: $(LIBRARY)
 	mkdir -p target/oracle

@@ -5,35 +5,17 @@
 //! A function group is one module with `compare(&Options) -> Result<Summary, String>`; the error
 //! text is the first call that differs, with its whole input.
 
+include!("modules.rs");
+
+mod damage;
 mod events;
-#[allow(dead_code)]
-mod fdct;
 mod guard;
-#[allow(dead_code)]
-mod half_sample;
-#[path = "cos_table.rs"]
-mod idct;
-#[allow(dead_code)]
-mod inverse_quant;
-mod ivop_encode;
 mod levels;
-mod library;
-mod library_levels;
-mod library_transform;
 mod options;
-mod predictor;
-#[allow(dead_code)]
-mod quantise;
-#[allow(dead_code)]
-mod quarter_sample;
-mod random;
 mod sample;
-mod sample_padding;
-#[allow(dead_code)]
-mod scan;
+mod search;
 mod summary;
 mod tally;
-mod texture;
 mod transform;
 
 use options::Options;
@@ -47,7 +29,9 @@ fn main() {
     });
     println!("seed {}", options.seed);
     let mut groups = Vec::new();
-    for compare in [sample::compare, transform::compare, levels::compare, events::compare] {
+    for compare in
+        [sample::compare, transform::compare, levels::compare, events::compare, search::compare]
+    {
         match compare(&options) {
             Ok(summary) => groups.push(summary),
             Err(text) => {

@@ -3,7 +3,7 @@
 
 use crate::guard::{held, Lent};
 use crate::ivop_encode;
-use crate::library_levels as library;
+use crate::library;
 use crate::options::Options;
 use crate::random::Random;
 use crate::scan::{self, ScanType};

@@ -1,6 +1,8 @@
 //! An output area lent to the library, between two guards. All of it starts as a pattern, so that
 //! an entry written where none may be, or left where one must be, is seen.
 
+use std::fmt::Display;
+
 /// As long as the longest answer, so that one written to too short an area is still caught.
 const GUARD: usize = 256;
 
@@ -21,6 +23,13 @@ impl Pattern for i32 {
     /// Far from every coefficient and level, which stay within -2,048..2,047.
     fn at(index: usize, salt: u8) -> i32 {
         0x4000_0000 | (index as i32) << 8 | i32::from(salt)
+    }
+}
+
+impl Pattern for u32 {
+    /// Far from every sum, which is at most 255 times 256.
+    fn at(index: usize, salt: u8) -> u32 {
+        0x8000_0000 | (index as u32) << 8 | u32::from(salt)
     }
 }
 
@@ -65,7 +74,12 @@ impl<T: Pattern> Lent<T> {
 
 /// Holds a call that fills one area to its reply: 0 with `wanted` in the area, or a refusal with
 /// nothing written. The error is the text of the difference.
-pub fn held(lent: &Lent<i32>, got: u8, reply: u8, wanted: &[i32]) -> Result<(), String> {
+pub fn held<T: Pattern + Display>(
+    lent: &Lent<T>,
+    got: u8,
+    reply: u8,
+    wanted: &[T],
+) -> Result<(), String> {
     if got != reply {
         return Err(format!("reply {got}, wanted {reply}"));
     }

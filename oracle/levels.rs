@@ -4,7 +4,7 @@
 
 use crate::guard::{held, Lent};
 use crate::inverse_quant::{inverse_quant_method2_coef, saturate_fprime};
-use crate::library_levels as library;
+use crate::library;
 use crate::options::Options;
 use crate::quantise::{quantise_method1_inter, quantise_method2_inter};
 use crate::random::Random;

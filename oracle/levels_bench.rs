@@ -3,7 +3,7 @@
 //! areas are not cleared between calls, and the library judges its arguments in every call.
 
 use crate::ivop_encode::{forward_scan, qfs_to_events};
-use crate::library_levels as library;
+use crate::library;
 use crate::quantise::{quantise_method1_inter, quantise_method2_inter};
 use crate::random::Random;
 use crate::scan::ScanType;

@@ -1,7 +1,13 @@
-//! The static library's functions, and safe forms of them for the programs here.
-//!
-//! Nothing checks these declarations against the library's source: they, `include/hencouch.h` and
-//! the `extern "C"` functions of the library are kept alike by hand.
+//! The static library's functions in safe form. The two interpolations and the two searches take
+//! their many arguments as structs.
+
+mod raw;
+mod search;
+
+pub use raw::{
+    forward_dct_8x8, forward_scan, inverse_block, inverse_scan, levels_to_events, quantise_block,
+};
+pub use search::{estimate_motion, estimate_motion_4mv, Search, Source};
 
 /// A reference plane as the library takes it: samples and geometry, unchecked.
 #[derive(Clone, Copy)]
@@ -24,93 +30,22 @@ pub struct Block {
     pub rounding: u8,
 }
 
-#[link(name = "hencouch", kind = "static")]
-extern "C" {
-    fn hencouch_interpolate_block_into(
-        samples: *const u8,
-        samples_len: usize,
-        width: usize,
-        height: usize,
-        stride: usize,
-        mv_x: i32,
-        mv_y: i32,
-        origin_x: i32,
-        origin_y: i32,
-        block_w: usize,
-        block_h: usize,
-        rounding: u8,
-        out: *mut u8,
-        out_len: usize,
-    ) -> u8;
-
-    fn hencouch_interpolate_block_qpel_into(
-        samples: *const u8,
-        samples_len: usize,
-        width: usize,
-        height: usize,
-        stride: usize,
-        mv_x: i32,
-        mv_y: i32,
-        origin_x: i32,
-        origin_y: i32,
-        block_w: usize,
-        block_h: usize,
-        rounding: u8,
-        bits_per_pixel: u32,
-        out: *mut u8,
-        out_len: usize,
-    ) -> u8;
-}
-
-/// Half-sample prediction. The reply: 0, or the number of the refusal.
+/// Half-sample prediction.
 pub fn interpolate_block_into(r: &Reference, b: &Block, out: &mut [u8]) -> u8 {
-    // Sound for any arguments: each pointer goes with the length of its slice, and the library
-    // judges every number itself.
-    unsafe {
-        hencouch_interpolate_block_into(
-            r.samples.as_ptr(),
-            r.samples.len(),
-            r.width,
-            r.height,
-            r.stride,
-            b.mv_x,
-            b.mv_y,
-            b.origin_x,
-            b.origin_y,
-            b.block_w,
-            b.block_h,
-            b.rounding,
-            out.as_mut_ptr(),
-            out.len(),
-        )
-    }
+    let Reference { samples, width, height, stride } = *r;
+    let Block { mv_x, mv_y, origin_x, origin_y, block_w, block_h, rounding } = *b;
+    raw::interpolate_block_into(
+        samples, width, height, stride, mv_x, mv_y, origin_x, origin_y, block_w, block_h, rounding,
+        out,
+    )
 }
 
-/// Quarter-sample prediction. The reply: 0, or the number of the refusal.
-pub fn interpolate_block_qpel_into(
-    r: &Reference,
-    b: &Block,
-    bits_per_pixel: u32,
-    out: &mut [u8],
-) -> u8 {
-    // Sound for the same reason.
-    unsafe {
-        hencouch_interpolate_block_qpel_into(
-            r.samples.as_ptr(),
-            r.samples.len(),
-            r.width,
-            r.height,
-            r.stride,
-            b.mv_x,
-            b.mv_y,
-            b.origin_x,
-            b.origin_y,
-            b.block_w,
-            b.block_h,
-            b.rounding,
-            bits_per_pixel,
-            out.as_mut_ptr(),
-            out.len(),
-        )
-    }
+/// Quarter-sample prediction.
+pub fn interpolate_block_qpel_into(r: &Reference, b: &Block, bits: u32, out: &mut [u8]) -> u8 {
+    let Reference { samples, width, height, stride } = *r;
+    let Block { mv_x, mv_y, origin_x, origin_y, block_w, block_h, rounding } = *b;
+    raw::interpolate_block_qpel_into(
+        samples, width, height, stride, mv_x, mv_y, origin_x, origin_y, block_w, block_h, rounding,
+        bits, out,
+    )
 }

@@ -12,6 +12,7 @@ mod valid;
 use crate::options::Options;
 use crate::random::Random;
 use crate::summary::Summary;
+use crate::tally::Tally;
 use call::Function;
 use check::check;
 use plane::Plane;
@@ -63,18 +64,17 @@ fn damaged_calls(function: Function, options: &Options) -> Result<(), String> {
     let mut store = vec![0; damage::STORE];
     random.fill(&mut store);
     let before = store.clone();
-    let mut coverage = coverage::Refused::default();
+    let mut tally = Tally::new(function.name(), refusal::numbers(function));
     for _ in 0..options.refused {
         let call = damage::call(function, &store, &mut random);
         let reasons = refusal::reasons(&call);
         check(&call, reasons[0], random.byte())?;
-        coverage.count(&reasons);
+        tally.count(&reasons);
     }
     if store != before {
         return Err(samples_changed(function));
     }
-    coverage.print(function);
-    coverage.complete(function)
+    tally.finish().map(|_| ())
 }
 
 fn samples_changed(function: Function) -> String {

@@ -13,12 +13,20 @@ pub struct Tally {
     replies: BTreeMap<u8, usize>,
     alone: BTreeSet<u8>,
     pairs: BTreeSet<(u8, u8)>,
+    /// How many pairs there can be.
+    every: usize,
 }
 
 impl Tally {
     pub fn new(name: &'static str, numbers: &'static [u8]) -> Self {
         let (replies, alone, pairs) = Default::default();
-        Tally { name, numbers, calls: 0, replies, alone, pairs }
+        let every = numbers.len() * (numbers.len() - 1) / 2;
+        Tally { name, numbers, calls: 0, replies, alone, pairs, every }
+    }
+
+    /// So many pairs that cannot be, as one reason rules the other out.
+    pub fn without(self, pairs: usize) -> Self {
+        Tally { every: self.every - pairs, ..self }
     }
 
     /// All reasons of one call, in order.
@@ -34,7 +42,7 @@ impl Tally {
     /// Prints the counts; an error if a long run left something out. The count of calls.
     pub fn finish(self) -> Result<usize, String> {
         let all = self.numbers.len();
-        let every = all * (all - 1) / 2;
+        let every = self.every;
         let words: Vec<String> = self.replies.iter().map(|(n, c)| format!("{n} {c}")).collect();
         println!("{}: {} refusals equal: {}", self.name, self.calls, words.join(", "));
         println!(

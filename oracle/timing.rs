@@ -22,6 +22,11 @@ impl Times {
         Times { rust: self.rust.min(other.rust), rattle: self.rattle.min(other.rattle) }
     }
 
+    pub fn mean(all: &[Times]) -> Times {
+        let mean = |of: fn(&Times) -> f64| all.iter().map(of).sum::<f64>() / all.len() as f64;
+        Times { rust: mean(|times| times.rust), rattle: mean(|times| times.rattle) }
+    }
+
     /// How many times as fast as the Rust.
     pub fn ratio(&self) -> f64 {
         self.rust / self.rattle
@@ -42,6 +47,27 @@ pub fn measure(
         best = best.best(Times { rust, rattle });
     }
     best
+}
+
+/// For calls that are slow: each is timed by itself, those of one side after the other's, and kept
+/// in `best` where it is the best of that call. So a slow spell of the machine spoils few calls.
+pub fn measure_each(
+    mut rust: impl FnMut(usize),
+    mut rattle: impl FnMut(usize),
+    best: &mut [Times],
+) {
+    for (call, times) in best.iter_mut().enumerate() {
+        times.rust = times.rust.min(single(&mut rust, call));
+    }
+    for (call, times) in best.iter_mut().enumerate() {
+        times.rattle = times.rattle.min(single(&mut rattle, call));
+    }
+}
+
+fn single(side: &mut impl FnMut(usize), call: usize) -> f64 {
+    let begun = Instant::now();
+    side(call);
+    begun.elapsed().as_nanos() as f64
 }
 
 /// Nanoseconds per call over one batch.

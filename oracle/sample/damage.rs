@@ -3,6 +3,7 @@
 
 use super::call::{Call, Function};
 use super::refusal;
+use crate::damage::{beyond_32_bits, bits, cut, geometry};
 use crate::library::{Block, Reference};
 use crate::random::Random;
 
@@ -55,47 +56,6 @@ fn choose(function: Function, random: &mut Random) -> Vec<u8> {
     let always = random.pick(&numbers);
     numbers.retain(|&number| number == always || random.chance(40));
     numbers
-}
-
-fn bits(random: &mut Random) -> u32 {
-    let any = 9 + (random.bits() >> 34) as u32;
-    random.pick(&[0, 0, 9, 9, 10, 16, 31, 32, 33, 256 + 8, 1 << 31, u32::MAX, any])
-}
-
-/// A number that passes for `low` when its high half is lost.
-fn beyond_32_bits(low: usize) -> usize {
-    (1 << 32) + low
-}
-
-fn geometry(r: &mut Reference, random: &mut Random) {
-    let huge = random.pick(&[usize::MAX, 1 << 63, 1 << 31]);
-    match random.size(0, 9) {
-        0 => r.width = 0,
-        1 => r.height = 0,
-        2 => (r.width, r.height) = (0, 0),
-        3 => r.stride = random.size(0, r.width - 1),
-        4 => {
-            r.width = random.size(4097, 4200);
-            r.stride = r.width + random.size(0, 50);
-            r.height = random.size(1, 20);
-        }
-        5 => (r.width, r.height, r.stride) = (1, random.size(4097, 4200), random.size(1, 20)),
-        6 => (r.height, r.stride) = (random.size(1, 10), random.size(8193, 9000)),
-        7 => (r.height, r.stride) = (1, huge),
-        8 => (r.width, r.stride) = (beyond_32_bits(r.width), beyond_32_bits(r.stride)),
-        _ => r.height = random.pick(&[huge, beyond_32_bits(r.height)]),
-    }
-}
-
-/// Too few samples, by one or by more.
-fn cut(r: &mut Reference, random: &mut Random) {
-    let most = refusal::last_sample(r).min(r.samples.len() as u128) as usize;
-    let len = match random.size(0, 2) {
-        0 => 0,
-        1 => random.size(0, most),
-        _ => most,
-    };
-    r.samples = &r.samples[..len];
 }
 
 /// One to four of the numbers beyond their limits.

@@ -2,7 +2,8 @@
 //! every reason that a call gives is worked out, and the reply is the first of them.
 
 use super::call::{Call, Function};
-use crate::library::{Block, Reference};
+use crate::damage::{bad_geometry, last_sample};
+use crate::library::Block;
 
 /// The numbers that can occur, in the order in which they are looked at.
 pub fn numbers(function: Function) -> &'static [u8] {
@@ -24,18 +25,6 @@ pub fn reasons(call: &Call) -> Vec<u8> {
         _ => unreachable!("no such refusal of an interpolation"),
     };
     numbers(call.function).iter().copied().filter(|&number| holds(number)).collect()
-}
-
-fn bad_geometry(r: &Reference) -> bool {
-    let side = 1..=4096;
-    !side.contains(&r.width) || !side.contains(&r.height) || !(r.width..=8192).contains(&r.stride)
-}
-
-/// (height - 1) * stride + width - 1, without wrap-around. Sides of 0 are a bad geometry, which is
-/// looked at before; they count as 1 here.
-pub fn last_sample(r: &Reference) -> u128 {
-    let above = r.height.saturating_sub(1) as u128 * r.stride as u128;
-    above + r.width.saturating_sub(1) as u128
 }
 
 fn bad_place(b: &Block) -> bool {

@@ -1,0 +1,34 @@
+// The modules that compare and bench share; each of the two includes this list. Either leaves some
+// functions unused.
+
+mod bvop_prediction;
+#[macro_use]
+mod entry;
+#[allow(dead_code)]
+mod fdct;
+#[allow(dead_code)]
+mod half_sample;
+#[path = "cos_table.rs"]
+mod idct;
+#[allow(dead_code)]
+mod inverse_quant;
+mod ivop_encode;
+#[allow(dead_code, unused_imports)]
+mod library;
+mod motion;
+#[allow(dead_code)]
+mod pictures;
+mod predictor;
+#[allow(dead_code, unused_imports)]
+mod pvop_encode;
+mod pvop_mv;
+#[allow(dead_code)]
+mod quantise;
+#[allow(dead_code)]
+mod quarter_sample;
+#[allow(dead_code)]
+mod random;
+mod sample_padding;
+#[allow(dead_code)]
+mod scan;
+mod texture;

@@ -1,0 +1,93 @@
+//! The two searches: `estimate_motion` and `estimate_motion_4mv`.
+
+mod call;
+mod check;
+mod contents;
+mod coverage;
+mod damage;
+mod form;
+mod listed;
+mod marks;
+mod refusal;
+mod scene;
+mod shape;
+mod sums;
+
+mod valid;
+mod walk;
+
+use crate::options::Options;
+use crate::random::Random;
+use crate::summary::Summary;
+use crate::tally::Tally;
+use call::Function;
+use check::check;
+use coverage::Coverage;
+use scene::Scene;
+
+const CALLS_PER_SCENE: usize = 5;
+
+/// A search takes a hundred times as long as a block's prediction, so there is one for every so
+/// many valid calls that are asked for.
+const SHARE: usize = 10;
+
+pub fn compare(options: &Options) -> Result<Summary, String> {
+    let mut equal = Vec::new();
+    let mut refusals = 0;
+    for function in [Function::One, Function::Four] {
+        let cases = listed::compare(function)?;
+        println!("{}: {cases} listed cases equal", function.name());
+        equal.push((function.name(), valid_calls(function, options)?));
+        refusals += damaged_calls(function, options)?;
+    }
+    Ok(Summary { equal, refusals })
+}
+
+/// Each part has its own generator, so that the count of one doesn't change the calls of another.
+fn generator(options: &Options, function: Function, part: u64) -> Random {
+    let part = 0x200 + part + 2 * (function == Function::Four) as u64;
+    Random::new(options.seed.wrapping_add(part << 48))
+}
+
+fn valid_calls(function: Function, options: &Options) -> Result<usize, String> {
+    let mut random = generator(options, function, 0);
+    let mut coverage = Coverage::new(function);
+    let calls = options.valid / SHARE;
+    for turn in 0..calls.div_ceil(CALLS_PER_SCENE) {
+        let scene = Scene::random(turn, &mut random);
+        let left = calls - turn * CALLS_PER_SCENE;
+        for _ in 0..left.min(CALLS_PER_SCENE) {
+            let call = valid::call(function, &scene, &mut random);
+            let answer = check(&call, 0, random.byte())
+                .map_err(|text| format!("picture {:?}, {}\n{text}", scene.kind, scene.shape))?;
+            coverage.count(&call, &scene, &answer)?;
+        }
+        if !scene.unchanged() {
+            return Err(samples_changed(function));
+        }
+    }
+    coverage.finish()
+}
+
+fn damaged_calls(function: Function, options: &Options) -> Result<usize, String> {
+    let mut random = generator(options, function, 1);
+    let mut store = vec![0; damage::STORE];
+    random.fill(&mut store);
+    let before = store.clone();
+    // A mode that is neither is not quarter mode, so 2 and 3 exclude each other.
+    let mut tally = Tally::new(function.name(), refusal::numbers(function)).without(1);
+    for _ in 0..options.refused {
+        let call = damage::call(function, &store, &mut random);
+        let reasons = refusal::reasons(&call);
+        check(&call, reasons[0], random.byte())?;
+        tally.count(&reasons);
+    }
+    if store != before {
+        return Err(samples_changed(function));
+    }
+    tally.finish()
+}
+
+fn samples_changed(function: Function) -> String {
+    format!("MISMATCH: a call of {} changed the samples lent for reading", function.name())
+}
