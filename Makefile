@@ -16,9 +16,10 @@ CUT_ivop_encode := scan_positions forward_scan qfs_to_events
 CUT_pvop_encode := SEARCH_RANGE mv_range search_window_pels sad_full_pel units_per_pel sad_subpel \
   full_pel_window refine_subpel estimate_motion sad_full_pel_block8 sad_subpel_block8 \
   estimate_motion_4mv
-# The functions of the search by a part of their names, and how often psadbw has to be in them.
-SEARCH_CODE := search|estimate_motion
-PSADBW := 4
+# The function that sums a block, and how often psadbw has to be in it: 2 a turn of 8 for 16 rows of
+# 16, and 4 for 8 rows of 8.
+SEARCH_CODE := search::sums::block
+PSADBW := 6
 RUST := rustc --edition 2021 -C opt-level=3 -C codegen-units=1 -L native=$(LIBDIR)
 
 .PHONY: help test staticlib compare bench machine-code call originals

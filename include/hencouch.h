@@ -102,6 +102,53 @@ uint8_t hencouch_levels_to_events(
     const int32_t *levels, size_t levels_len, uint8_t *lasts, size_t lasts_len,
     uint8_t *runs, size_t runs_len, int32_t *out_levels, size_t out_levels_len, uint8_t *count);
 
+/*
+ * The motion vector of the macroblock at column and row, which count macroblocks. The source is
+ * width x height luma samples, row by row; the reference plane is reference[0..reference_len), rows
+ * stride apart; coordinates outside either are clamped into it. mode 0 is half samples, 1 quarter
+ * samples; bits_per_pixel counts in mode 1 only. The vector, in half or quarter samples, horizontal
+ * then vertical, goes to vector, and its sum of absolute differences to sum[0].
+ *
+ * Returns 0 when both are written. Otherwise nothing is written, and the number is the first that
+ * applies:
+ *    1  fcode not 1..7
+ *    2  mode neither 0 nor 1
+ *    3  mode 1, bits_per_pixel not 1..8
+ *    4  ref_width or ref_height not 1..4096, or stride not ref_width..8192
+ *    5  reference_len not above (ref_height - 1) * stride + ref_width - 1
+ *    6  width or height not 1..4096
+ *    7  source_len below width * height
+ *    8  column or row at or above width or height over 16, rounded up
+ *   12  vector_len not 2 or sum_len not 1
+ *
+ * vector and sum overlap neither each other nor source or reference.
+ */
+uint8_t hencouch_estimate_motion(
+    const uint8_t *source, size_t source_len, size_t width, size_t height,
+    size_t column, size_t row,
+    const uint8_t *reference, size_t reference_len,
+    size_t ref_width, size_t ref_height, size_t stride,
+    uint32_t mode, uint32_t bits_per_pixel, uint32_t fcode,
+    int32_t *vector, size_t vector_len, uint32_t *sum, size_t sum_len);
+
+/*
+ * The vectors of the macroblock's four 8 x 8 blocks, 0 and 1 above 2 and 3, searched for around a
+ * seed in half or quarter samples. Each vector's horizontal, then vertical, goes to vectors, and
+ * the four sums go to sums.
+ *
+ * Returns 0, or the first number that applies:
+ *    1, 2, 3, 4, 5, 6, 7, 8  as above
+ *    9  seed_x or seed_y outside -32F..32F - 1, F being 2^(fcode - 1)
+ *   12  vectors_len not 8 or sums_len not 4
+ */
+uint8_t hencouch_estimate_motion_4mv(
+    const uint8_t *source, size_t source_len, size_t width, size_t height,
+    size_t column, size_t row,
+    const uint8_t *reference, size_t reference_len,
+    size_t ref_width, size_t ref_height, size_t stride,
+    uint32_t mode, uint32_t bits_per_pixel, uint32_t fcode, int32_t seed_x, int32_t seed_y,
+    int32_t *vectors, size_t vectors_len, uint32_t *sums, size_t sums_len);
+
 #ifdef __cplusplus
 }
 #endif

@@ -4,6 +4,8 @@ use lib.IntN.{ℤ}
 use Rattle.record.specs.declared.MotionVector.{MotionVector}
 use Rattle.plane.specs.declared.Geometry.{Geometry}
 use Rattle.plane.specs.declared.Point.{Point}
+use Rattle.plane.specs.declared.SourceSize.{SourceSize}
+use Rattle.plane.specs.declared.MacroblockPlace.{MacroblockPlace}
 
 abbrev pub geometryOf : ℕ → ℕ → ℕ → Geometry
 geometryOf width height stride = record { width = width; height = height; stride = stride }
@@ -13,3 +15,9 @@ vectorOf x y = record { x = x; y = y }
 
 abbrev pub pointOf : ℤ → ℤ → Point
 pointOf x y = record { x = x; y = y }
+
+abbrev pub sizeOf : ℕ → ℕ → SourceSize
+sizeOf width height = record { width = width; height = height }
+
+abbrev pub placeOf : ℕ → ℕ → MacroblockPlace
+placeOf column row = record { column = column; row = row }

@@ -59,7 +59,7 @@ module _ (cost : MotionVector → ℕ) (w : ℕ) (b : Block) where
     unfolding fullWinner fullRest
     full-dense f =
         let t : ltb (cost (coarseBest cost w b)) (cost nearBest) ≡ true = lt-ltb (cost (coarseBest cost w b)) (cost nearBest) (omega (arith, costs .0, costs .1)) in
-        rw (c-is, lt-leb _ _ h, t) (keptRows-best cost (denseRow w (coarseBest cost w b .y)) zeroVector (coarse cost w b) 7)
+        rw (c-is, lt-leb _ _ h, t) (keptRows-best cost (denseRow w (coarseBest cost w b .y)) zeroVector (coarse w b) 7)
 
     -- whose lattice lost: what the rows kept
     pub full-near : n .cost ≤ c .cost → n ≡ atCost cost (fullWinner cost w b)

@@ -1,17 +1,17 @@
 -- Vectors in range, as clamping makes them, and what their parts are then at most. Assumes nothing.
-use Prim.Native.Nat.{ℕ, zero, suc, _+_, _-_, _*_, _^_, _≤_, _<_}
+use Prim.Native.Nat.{ℕ, zero, suc, _+_, _-_, _^_, _≤_, _<_}
 use native.Mathlib.Omega.{arith}
-use mathlib.Core.Bool.{Bool, true, false, cond, _&&_}
-use mathlib.Core.Path.{_≡_, refl, sym, ap, _∙_}
+use mathlib.Core.Bool.{Bool, true, false, cond}
+use mathlib.Core.Path.{_≡_, refl}
 use lib.Dec.{T}
-use lib.IntN.{ℤ, pos, negsuc, negℤ}
+use lib.IntN.{ℤ, pos, negsuc}
 use lib.Signed.{ltZ, leZ}
 use Rattle.basis.specs.Parts.{above, below}
 use Rattle.basis.proofs.Case.{both}
 use Rattle.basis.proofs.Parts.{sides, above-neg, below-neg, parts-le}
-use Rattle.basis.proofs.Signed.{lt-true, lt-false, le-true}
+use Rattle.basis.proofs.Signed.{lt-false}
 use Rattle.refusal.specs.Test.{between, inRange}
-use Rattle.refusal.proofs.Tests.{and-left, and-right, between-low, between-high, range-low, range-high}
+use Rattle.refusal.proofs.Tests.{and-left, and-right, between-high, range-low, range-high}
 use Rattle.record.specs.declared.MotionVector.{MotionVector}
 use Rattle.plane.specs.Reference.{vectorInRange}
 use Rattle.search.specs.Range.{range, low, high, vectorIn, clampZ, clamped}
@@ -24,6 +24,18 @@ power (suc n) = omega (arith, power n)
 pub range-least : (fcode : ℕ) → 32 ≤ range fcode
 unfolding range
 range-least fcode = omega (arith, power (fcode - 1))
+
+-- and beyond fcode 1 it is at least twice as wide
+pub range-twice : (fcode : ℕ) → 1 < fcode → 64 ≤ range fcode
+unfolding range
+range-twice fcode h = omega (arith, twice (fcode - 1) (omega arith))
+  where
+    twice : (n : ℕ) → 1 ≤ n → 2 ≤ 2 ^ n
+    twice zero h = absurd (none h)
+      where
+        none : 1 ≤ 0 → ⊥
+        none h = omega arith
+    twice (suc n) h = omega (arith, power n)
 
 power-upto : (k n : ℕ) → n ≤ k → 2 ^ n ≤ 2 ^ k
 power-upto zero zero h = omega arith

@@ -1,5 +1,5 @@
 -- What holds where a search is not refused. Assumes nothing.
-use Prim.Native.Nat.{ℕ, _*_, _/_, _-_, _≤_, max}
+use Prim.Native.Nat.{ℕ, _*_, _-_, _≤_}
 use native.Mathlib.Omega.{arith}
 use mathlib.Core.Bool.{Bool, true, false, cond, _||_}
 use mathlib.Core.List.{List}
@@ -18,14 +18,11 @@ use Rattle.plane.specs.declared.MacroblockPlace.{MacroblockPlace}
 use Rattle.plane.specs.Reference.{referenceReply}
 use Rattle.plane.specs.Source.{lumaReply}
 use Rattle.plane.proofs.ReadySource.{LumaReady, luma-ready, column-small, row-small}
-use Rattle.prediction.specs.declared.BVopSampleMode.{BVopSampleMode}
 use Rattle.prediction.specs.declared.BVopSampleMode.the-variants.{HalfPel, QuarterPel}
-use Rattle.prediction.specs.Luma.{unitsPerPel}
 use Rattle.prediction.specs.Macroblock.{modeReply}
-use Rattle.search.specs.Range.{range, window, vectorIn}
+use Rattle.search.specs.Range.{range, vectorIn}
 use Rattle.search.specs.Estimate.{modeOf, settingsReply, searchReply, seedReply, fourReply}
 use Rattle.search.specs.Told.{Set, Judged}
-use Rattle.search.proofs.InRange.{range-most}
 
 -- 3 asks for bits per pixel in quarter mode alone
 mode-done : (half : Bool) (bpp : ℕ) → (half || between 1 8 bpp) ≡ true → modeReply (cond half HalfPel (QuarterPel bpp)) ≡ Done
@@ -72,19 +69,6 @@ module _ (y samples : List ℕ) (s : SourceSize) (at : MacroblockPlace) (g : Geo
     pub seed-done : vectorIn fcode seed ≡ true
     unfolding fourReply seedReply
     seed-done = held (vectorIn fcode seed) Seed Done (then-done (searchReply (length y) s at (length samples) g mode bpp fcode) (seedReply fcode seed) e)
-
--- the widest window is that of fcode 7 in half mode
-pub window-most : (m : BVopSampleMode) (fcode : ℕ) → between 1 7 fcode ≡ true → window m fcode ≤ 1023
-unfolding window
-window-most m fcode e = at (eqb fcode 1)
-  where
-    wide : (m : BVopSampleMode) (n : ℕ) → n ≤ 2048 → max (n / unitsPerPel m - 1) 8 ≤ 1023
-    wide HalfPel n h = omega arith
-    wide (QuarterPel bpp) n h = omega arith
-
-    at : (t : Bool) → cond t 8 (max (range fcode / unitsPerPel m - 1) 8) ≤ 1023
-    at true = omega arith
-    at false = wide m (range fcode) (range-most fcode e)
 
 module _ (s : SourceSize) (y : ℕ) (at : MacroblockPlace) (e : lumaReply s y at ≡ Done) where
   ready : LumaReady s y at

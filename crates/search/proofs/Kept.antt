@@ -4,13 +4,20 @@ use native.Mathlib.Numerals.{add-one}
 use native.Mathlib.Omega.{arith}
 use mathlib.Core.Bool.{Bool, true, false, cond}
 use mathlib.Core.List.{List, [], _∷_, _++_, foldl, foldl-append}
-use mathlib.Core.Path.{_≡_, refl}
+use mathlib.Core.Path.{_≡_, refl, sym, ap₂, _∙_}
 use lib.Dec.{ltb}
 use borrow.Author.Tests.{ltb-true, ltb-false}
 use Rattle.basis.specs.Least.{better, best, grown}
+use Rattle.basis.specs.Lists.{rows}
+use Rattle.basis.proofs.Lists.{fold-rows}
 use Rattle.record.specs.declared.MotionVector.{MotionVector}
 use Rattle.search.specs.declared.Scored.{Scored}
 use Rattle.search.specs.Told.{consider, atCost, keptRows}
+
+-- a search over a list in pieces, one piece more
+pub pieces-more : (f : Scored → MotionVector → Scored) (s b : Scored) (piece : ℕ → List MotionVector) (j : ℕ) {l : List MotionVector} → b ≡ foldl f s (rows j piece) → l ≡ piece j
+    → foldl f b l ≡ foldl f s (rows (j + 1) piece)
+pieces-more f s b piece j e g = ap₂ (foldl f) e g ∙ sym (fold-rows f s j piece)
 
 module _ (cost : MotionVector → ℕ) where
   same : (l : List MotionVector) (a : MotionVector) → foldl (consider cost) (atCost cost a) l ≡ atCost cost (foldl (better cost) a l)

@@ -15,4 +15,7 @@ pub mod Rings
 pub mod RowSums
 pub mod Searched
 pub mod Shown
+pub mod Sides
+pub mod SourceBlock
 pub mod WholeSums
+pub mod Windows

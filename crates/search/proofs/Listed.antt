@@ -1,8 +1,8 @@
 -- Whether a displacement is listed, and what a search that meets it keeps. Assumes nothing.
 use Prim.Native.Nat.{ℕ, _-_, _<_, _≤_}
-use mathlib.Core.Bool.{Bool, true, false, cond, _&&_}
-use mathlib.Core.List.{List, [], _∷_, foldl}
-use mathlib.Core.Path.{_≡_, refl, sym, ap, ap₂, _∙_}
+use mathlib.Core.Bool.{cond, _&&_}
+use mathlib.Core.List.{[], _∷_}
+use mathlib.Core.Path.{_≡_, ap}
 use lib.Dec.{leb, ltb, eqb}
 use borrow.Author.Tests.{le-leb, lt-leb, eq-eqb, ne-eqb}
 use Rattle.basis.proofs.Case.{then, else, both, first-fails, second-fails}

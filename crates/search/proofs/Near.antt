@@ -73,12 +73,12 @@ winner-within cost w b h =
     first-all (Within 1023) cost (fullList cost w b) _ (winner-first cost w b)
     (zero-within 1023, at (leb w 8) (ltb (cost (coarseBest cost w b)) (cost (best cost zeroVector near))))
   where
-    rows-and-lattice : All (Within 1023) (coarse cost w b)
+    rows-and-lattice : All (Within 1023) (coarse w b)
     rows-and-lattice = all-append (Within 1023) near _ (near-within 1023 (omega arith)) (lattice-within 1023 w (b .x) (b .y) (b .reference .width) (b .reference .height) h)
 
-    at : (s t : Bool) → All (Within 1023) (cond s near (cond t (grown cost zeroVector (denseRow w (coarseBest cost w b .y)) (coarse cost w b) 7) (coarse cost w b)))
+    at : (s t : Bool) → All (Within 1023) (cond s near (cond t (grown cost zeroVector (denseRow w (coarseBest cost w b .y)) (coarse w b) 7) (coarse w b)))
     at true t = near-within 1023 (omega arith)
-    at false true = all-grown (Within 1023) cost zeroVector _ (coarse cost w b) 7 (zero-within 1023) rows-and-lattice (λ c j p. dense-within 1023 w (coarseBest cost w b .y) c j h)
+    at false true = all-grown (Within 1023) cost zeroVector _ (coarse w b) 7 (zero-within 1023) rows-and-lattice (λ c j p. dense-within 1023 w (coarseBest cost w b .y) c j h)
     at false false = rows-and-lattice
 
 pub four-within : (cost : MotionVector → ℕ) (w : ℕ) (m : BVopSampleMode) (seed : MotionVector) → w ≤ 1023 → Within 1023 (fourWinner cost w m seed)

@@ -1,26 +1,22 @@
 -- Patches of the reference, as they are copied, show what a block meets there, and have room for the rows that are searched.
 -- Assumes nothing.
 use Prim.Native.Nat.{ℕ, _+_, _-_, _*_, _<_, _≤_}
-use native.Mathlib.Nat.{mul-le-mul-right, add-mul}
+use native.Mathlib.Nat.{add-mul}
 use native.Mathlib.Omega.{arith}
-use mathlib.Core.Bool.{true}
 use mathlib.Core.List.{List}
-use mathlib.Core.Path.{_≡_, refl, sym, ap, ap₂, subst, _∙_}
-use lib.Dec.{eqb}
-use lib.IntN.{ℤ, pos, _+ℤ_}
+use mathlib.Core.Path.{_≡_, ap, ap₂, _∙_}
+use lib.IntN.{pos, _+ℤ_}
 use lib.ListN.{length, getD}
-use borrow.Author.Tests.{eqb-true}
 use Rattle.basis.proofs.Bounds.{row-before}
-use Rattle.basis.proofs.Lists.{length-raster, getD-raster}
+use Rattle.basis.proofs.Lists.{getD-raster}
 use Rattle.refusal.specs.declared.Reply.{Reply}
 use Rattle.refusal.specs.declared.Reply.the-variants.{Done}
 use Rattle.refusal.specs.Reply.{done}
-use Rattle.refusal.proofs.Tests.{or-elim}
 use Rattle.record.specs.declared.MotionVector.{MotionVector}
 use Rattle.plane.specs.declared.Geometry.{Geometry}
 use Rattle.plane.specs.declared.Point.{Point}
 use Rattle.plane.specs.Plane.{Plane, planeOf, sampleAt, copied, copiedBlock}
-use Rattle.plane.specs.Reference.{referenceReply, copyReply, isSide}
+use Rattle.plane.specs.Reference.{referenceReply, copyReply}
 use Rattle.plane.proofs.Ready.{copy-done}
 use Rattle.search.specs.Places.{down}
 use Rattle.search.specs.Told.{movedTo, Shown}
@@ -70,7 +66,3 @@ pub patch-room : (w h side r c : ℕ) → 1 ≤ side → r + side ≤ h → c + 
 patch-room w h side r c a b k =
     let m : r + (side - 1) < h = omega arith in
     omega (arith, row-before w m, add-mul r (side - 1) w)
-
--- a side is 8 or 16
-pub by-side : (P : ℕ → Type 0) (n : ℕ) → isSide n ≡ true → P 8 → P 16 → P n
-by-side P n e a b = or-elim (eqb n 8) (eqb n 16) (P n) (λ q. subst P (sym (eqb-true n 8 q)) a) (λ q. subst P (sym (eqb-true n 16 q)) b) e

@@ -1,51 +1,28 @@
 -- A block's prediction is not refused, and the sum of a vector is that of the source against it, row by row. Assumes nothing.
-use Prim.Native.Nat.{ℕ, zero, suc, _+_, _-_, _*_, _≤_}
+use Prim.Native.Nat.{ℕ, _+_, _*_, _≤_}
 use native.Mathlib.Omega.{arith}
-use mathlib.Core.Bool.{Bool, true}
+use mathlib.Core.Bool.{true}
 use mathlib.Core.List.{List}
 use mathlib.Core.Path.{_≡_, ap, _∙_}
-use borrow.Author.Tests.{eqb-true, le-leb}
-use lib.Dec.{eqb}
+use borrow.Author.Tests.{le-leb}
 use lib.IntN.{pos}
 use lib.ListN.{length, getD}
-use Rattle.basis.specs.Lists.{raster}
-use Rattle.basis.specs.Sums.{sumTo}
-use Rattle.basis.proofs.Bounds.{product-le}
 use Rattle.basis.proofs.Case.{both}
-use Rattle.basis.proofs.Lists.{getD-raster}
 use Rattle.basis.proofs.Sums.{sumTo-cong}
-use Rattle.refusal.specs.declared.Refusal.the-variants.{Place}
 use Rattle.refusal.specs.declared.Reply.the-variants.{Done}
-use Rattle.refusal.specs.Reply.{unless}
-use Rattle.refusal.proofs.Tests.{or-elim}
 use Rattle.record.specs.declared.MotionVector.{MotionVector}
 use Rattle.plane.specs.declared.Geometry.{Geometry}
 use Rattle.plane.specs.declared.Point.{Point}
 use Rattle.plane.specs.Plane.{Plane}
-use Rattle.plane.specs.Reference.{originInRange, vectorInRange, motionReply, isSide}
+use Rattle.plane.specs.Reference.{originInRange, vectorInRange}
 use Rattle.prediction.specs.declared.BVopSampleMode.{BVopSampleMode}
-use Rattle.prediction.specs.Luma.{lumaSample, lumaBlock, lumaReply}
+use Rattle.prediction.specs.Luma.{lumaBlock, lumaReply}
 use Rattle.prediction.specs.Macroblock.{modeReply}
 use Rattle.plane.proofs.Ready.{motion-done}
 use Rattle.prediction.proofs.LumaAt.{luma-at}
 use Rattle.prediction.proofs.Ready.{luma-done}
 use Rattle.search.specs.Sums.{absDiff, differences, vectorSum}
-use Rattle.search.specs.Told.{Ready, rowSum, windowSum, blockOf}
-
--- a side is 8 or 16
-side-most : (n : ℕ) → isSide n ≡ true → n ≤ 16
-side-most n e = or-elim (eqb n 8) (eqb n 16) (n ≤ 16) (λ q. omega (arith, eqb-true n 8 q)) (λ q. omega (arith, eqb-true n 16 q)) e
-
-pub area-most : (n : ℕ) → isSide n ≡ true → n * n ≤ 256
-area-most n e = product-le (side-most n e) (side-most n e)
-
--- its last row ends where the block does
-pub last-row : (n : ℕ) → 0 + (n - 1) * n + n ≤ n * n
-last-row zero = omega arith
-last-row (suc n) = omega (arith, ap (λ (k : ℕ). k * suc n) (before n))
-  where
-    before : (n : ℕ) → suc n - 1 ≡ n
-    before n = omega arith
+use Rattle.search.specs.Told.{Ready, windowSum, blockOf}
 
 -- where a block that is searched for stands
 abbrev pub cornerAt : ℕ → ℕ → Point

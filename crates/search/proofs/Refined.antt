@@ -1,5 +1,6 @@
 -- The refinement: what the rings keep, that it is the first of least of the sub-sample list, and that it is in range. Assumes nothing.
-use Prim.Native.Nat.{ℕ}
+use Prim.Native.Nat.{ℕ, _≤_}
+use native.Mathlib.Omega.{arith}
 use mathlib.Core.Bool.{Bool, true, false, cond}
 use mathlib.Core.List.{[], _∷_, foldl}
 use mathlib.Core.Path.{_≡_, refl, _∙_}
@@ -10,13 +11,18 @@ use Rattle.basis.proofs.Each.{All, all-rows, all-grown, first-all, best-all}
 use Rattle.record.specs.declared.MotionVector.{MotionVector}
 use Rattle.prediction.specs.declared.BVopSampleMode.{BVopSampleMode}
 use Rattle.prediction.specs.declared.BVopSampleMode.the-variants.{HalfPel, QuarterPel}
-use Rattle.prediction.specs.Luma.{wholeVector}
+use Rattle.prediction.specs.Luma.{unitsPerPel, wholeVector}
 use Rattle.search.specs.declared.Scored.{Scored}
 use Rattle.search.specs.Range.{vectorIn}
 use Rattle.search.specs.Sub.{neighbour, ring, ringStep, start, subRest, subList, refined}
 use Rattle.search.specs.Told.{consider, atCost}
 use Rattle.search.proofs.InRange.{clamped-in}
 use Rattle.search.proofs.Kept.{search-best, search-more}
+
+-- a sample has at most four vector units
+pub units-most : (m : BVopSampleMode) → unitsPerPel m ≤ 4
+units-most HalfPel = omega arith
+units-most (QuarterPel bpp) = omega arith
 
 module _ (sum : MotionVector → ℕ) where
   -- in half mode the one ring gives the refinement

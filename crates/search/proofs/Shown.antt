@@ -1,16 +1,16 @@
 -- What a patch shows of the reference: the sum of a block on it is the block's at that displacement. Assumes nothing.
-use Prim.Native.Nat.{ℕ, _+_, _-_, _*_, _<_, _≤_}
+use Prim.Native.Nat.{ℕ, _+_, _*_, _≤_}
 use native.Mathlib.Omega.{arith}
 use mathlib.Core.List.{List}
-use mathlib.Core.Path.{_≡_, refl, sym, ap, ap₂, _∙_}
+use mathlib.Core.Path.{_≡_, sym, ap, _∙_}
 use lib.IntN.{ℤ, pos, _+ℤ_, +ℤ-assoc}
 use lib.ListN.{getD}
 use Rattle.basis.proofs.Sums.{sumTo-cong}
 use Rattle.record.specs.declared.MotionVector.{MotionVector}
-use Rattle.plane.specs.Plane.{Plane, sampleAt, copied}
+use Rattle.plane.specs.Plane.{Plane, sampleAt}
 use Rattle.search.specs.Sums.{absDiff, differences}
 use Rattle.search.specs.Places.{right}
-use Rattle.search.specs.Told.{rowSum, windowSum, blockOf, copiedSum, Shown}
+use Rattle.search.specs.Told.{windowSum, blockOf, copiedSum, Shown}
 
 module _ (side : ℕ) (p : Plane) (x y : ℕ) (d : MotionVector) (patch : List ℕ) (at width : ℕ) where
   -- the sum on the patch

@@ -31,19 +31,19 @@ denseRowAt w y c j = record { from = down (record { x = c .x -ℤ pos 3; y = y -
 abbrev pub denseRow : ℕ → ℤ → MotionVector → ℕ → List MotionVector
 denseRow w y c j = rowOf (denseRowAt w y c j)
 
-module _ (cost : MotionVector → ℕ) (w : ℕ) (b : Block) where
-  -- the rows and the lattice
-  abbrev pub coarse : List MotionVector
-  coarse = near ++ lattice w (b .x) (b .y) (b .reference .width) (b .reference .height)
+-- the rows and the lattice
+abbrev pub coarse : ℕ → Block → List MotionVector
+coarse w b = near ++ lattice w (b .x) (b .y) (b .reference .width) (b .reference .height)
 
+module _ (cost : MotionVector → ℕ) (w : ℕ) (b : Block) where
   abbrev pub coarseBest : MotionVector
-  coarseBest = best cost zeroVector coarse
+  coarseBest = best cost zeroVector (coarse w b)
 
   -- the rows; in a window above ±8 the lattice; if the lattice won, the dense pass
   unfoldable pub fullRest : List MotionVector
   fullRest =
       cond (leb w 8) near
-      (cond (ltb (cost coarseBest) (cost (best cost zeroVector near))) (grown cost zeroVector (denseRow w (coarseBest .y)) coarse 7) coarse)
+      (cond (ltb (cost coarseBest) (cost (best cost zeroVector near))) (grown cost zeroVector (denseRow w (coarseBest .y)) (coarse w b) 7) (coarse w b))
 
   -- THE LIST of one vector
   abbrev pub fullList : List MotionVector

@@ -42,8 +42,9 @@ places w m size = (min (back w m + w + 1) (back w m + size - m) + 3) / 4
 abbrev pub latticeFrom : ℕ → ℕ → ℕ → MotionVector
 latticeFrom w mx my = record { x = negℤ (pos (back w mx)); y = negℤ (pos (back w my)) }
 
--- outside ±8, which was searched before
+-- its row j, outside ±8, which was searched before
+abbrev pub latticeRowAt : ℕ → MotionVector → ℕ → ℕ → Row
+latticeRowAt w from count j = record { from = down from (4 * j); step = 4; count = count; near = 9; far = w }
+
 unfoldable pub lattice : ℕ → ℕ → ℕ → ℕ → ℕ → List MotionVector
-lattice w mx my width height =
-    rows (places w my height)
-    (λ j. rowOf (record { from = down (latticeFrom w mx my) (4 * j); step = 4; count = places w mx width; near = 9; far = w }))
+lattice w mx my width height = rows (places w my height) (λ j. rowOf (latticeRowAt w (latticeFrom w mx my) (places w mx width) j))

@@ -25,8 +25,11 @@ abbrev pub neighbour : ℕ → ℕ → MotionVector → ℕ → MotionVector
 neighbour fcode step c n = clamped fcode (record { x = stepped (c .x) step (n % 3); y = stepped (c .y) step (n / 3) })
 
 -- all but the centre
+abbrev pub ringAt : ℕ → ℕ → MotionVector → ℕ → List MotionVector
+ringAt fcode step c n = cond (eqb n 4) [] (neighbour fcode step c n ∷ [])
+
 unfoldable pub ring : ℕ → ℕ → MotionVector → List MotionVector
-ring fcode step c = rows 9 (λ n. cond (eqb n 4) [] (neighbour fcode step c n ∷ []))
+ring fcode step c = rows 9 (ringAt fcode step c)
 
 -- ring 0 at half a sample, ring 1 at a quarter
 abbrev pub ringStep : BVopSampleMode → ℕ → ℕ

@@ -16,7 +16,7 @@ use Rattle.plane.specs.declared.Point.{Point}
 use Rattle.plane.specs.declared.SourceSize.{SourceSize}
 use Rattle.plane.specs.declared.MacroblockPlace.{MacroblockPlace}
 use Rattle.plane.specs.Source.{lumaReply}
-use Rattle.plane.specs.Plane.{Plane, planeOf, copied}
+use Rattle.plane.specs.Plane.{Plane, copied}
 use Rattle.plane.specs.Reference.{referenceReply, isSide}
 use Rattle.refusal.specs.Test.{between}
 use Rattle.prediction.specs.declared.BVopSampleMode.{BVopSampleMode}

@@ -2,7 +2,7 @@
 // 8 x 8 block around a seed. Every row is searched on a patch of the reference that is copied once.
 ghost use mathlib.Core.Path.{_≡_};
 ghost use mathlib.Core.List.{foldl};
-ghost use Prim.Native.Nat.{_+_, _-_, _*_, _/_, _<_, _≤_};
+ghost use Prim.Native.Nat.{_+_, _-_, _*_, _<_, _≤_};
 ghost use lib.IntN.{pos, _+ℤ_, _-ℤ_};
 ghost use lib.Signed.{quotZ};
 ghost use lib.ListN.{length};
@@ -13,7 +13,7 @@ ghost use Rattle.refusal.specs.declared.Reply.the-variants.{Done};
 ghost use Rattle.plane.specs.Plane.{planeOf, copiedBlock};
 ghost use Rattle.plane.specs.Reference.{isSide, referenceReply};
 ghost use Rattle.prediction.specs.Luma.{unitsPerPel};
-ghost use Rattle.search.specs.Places.{rowOf, squareOf, back, places, latticeFrom, lattice};
+ghost use Rattle.search.specs.Places.{rowOf, squareOf, back, places, latticeFrom, latticeRowAt, lattice};
 ghost use Rattle.search.specs.Full.{discounted, near, denseRowAt, denseRow, fullWinner, seedFrom, fourWinner};
 ghost use Rattle.search.specs.Sub.{scored};
 ghost use Rattle.search.specs.Told.{windowSum, atCost, found, Within, Ready, movedTo, blockOf, copiedSum, consider, keptRows};
@@ -200,6 +200,20 @@ fn lattice_from(w: usize, x: usize, y: usize) -> MotionVector
     }
 }
 
+// Row j of the lattice.
+fn lattice_row(w: usize, from: MotionVector, count: usize, j: usize) -> Row
+    requires { ⌜ Within 1023 from × (j < 512) ⌝ }
+    ensures { λ r. ⌜ r ≡ latticeRowAt w from count j ⌝ }
+{
+    Row {
+        from: rows::down(from, 4 * j),
+        step: 4,
+        count,
+        near: 9,
+        far: w,
+    }
+}
+
 // The lattice, a strip of the reference a row.
 fn lattice_search(
     source: &[u8],
@@ -220,13 +234,7 @@ fn lattice_search(
     let size = (16 + 4 * count) * 16;
     let mut b = best;
     for j in 0..lines {
-        let row = Row {
-            from: rows::down(from, 4 * j),
-            step: 4,
-            count,
-            near: 9,
-            far: w,
-        };
+        let row = lattice_row(w, from, count, j);
         b = strip_search(
             source,
             16,

@@ -2,8 +2,9 @@
 // samples around the winner. It leans on what `prediction` and `plane` promise and repeats none of their arithmetic.
 ghost use mathlib.Core.Path.{_≡_};
 ghost use mathlib.Core.Bool.{true};
-ghost use Prim.Native.Nat.{_<_, _≤_};
-ghost use lib.ListN.{length};
+ghost use Prim.Native.Nat.{_+_, _*_, _/_, _%_, _<_, _≤_};
+ghost use lib.ListN.{length, getD};
+ghost use Rattle.basis.specs.Lists.{raster};
 ghost use Rattle.refusal.specs.declared.Reply.the-variants.{Done};
 ghost use Rattle.refusal.specs.Test.{between};
 ghost use Rattle.plane.specs.Plane.{planeOf};
@@ -135,16 +136,9 @@ pub fn estimate_motion(
     ensures { λ r. ⌜ r ≡ estimateMotion (now (source .entry)) size place (now (reference .entry)) geometry mode bpp fcode ⌝ }
     ensures { λ r. ⌜ (r .reply ≡ Done → OneVector (modeOf mode bpp) fcode (macroblock (now (source .entry)) size place (planeOf (now (reference .entry)) geometry)) (r .vector) (r .sum)) ⌝ }
 {
-    let reply = search_reply(
-        source.len(),
-        size,
-        place,
-        reference.len(),
-        geometry,
-        mode,
-        bpp,
-        fcode,
-    );
+    let y = source.len();
+    let bytes = reference.len();
+    let reply = search_reply(y, size, place, bytes, geometry, mode, bpp, fcode);
     match reply {
         Reply::Refused(why) => Estimated {
             reply: Reply::Refused(why),
@@ -192,6 +186,23 @@ fn four_reply(
     }
 }
 
+// The samples of 8 x 8 block n of a macroblock.
+fn eight_samples(macroblock: &[u8], n: usize, out: &mut [u8])
+    requires { ⌜ (length (now macroblock) ≡ 256) × (n < 4) × (length (now out) ≡ 64) ⌝ }
+    ensures { λ _. ⌜ now (out .exit) ≡ raster 8 8 (λ i j. getD (now (macroblock .entry)) ((8 * (n / 2) + j) * 16 + (8 * (n % 2) + i)) 0) ⌝ }
+{
+    let whole = Geometry {
+        width: 16,
+        height: 16,
+        stride: 16,
+    };
+    let at = Point {
+        x: (8 * (n % 2)) as i32,
+        y: (8 * (n / 2)) as i32,
+    };
+    plane::copy_block(macroblock, whole, at, 8, 8, out);
+}
+
 // The vector of 8 x 8 block n of a macroblock at x, y whose source samples these are.
 fn block_vector(
     macroblock: &[u8],
@@ -207,42 +218,14 @@ fn block_vector(
     requires { ⌜ Ready 16 (now macroblock) (now reference) geometry x y × (n < 4) × (x ≤ 4080) × (y ≤ 4080) × Set mode fcode × (vectorIn fcode seed ≡ true) ⌝ }
     ensures { λ r. ⌜ r ≡ blockVector mode fcode seed (eight (blockOf 16 (now (macroblock .entry)) (planeOf (now (reference .entry)) geometry) x y) n) ⌝ }
 {
-    let right = 8 * (n % 2);
-    let down = 8 * (n / 2);
-    let whole = Geometry {
-        width: 16,
-        height: 16,
-        stride: 16,
-    };
-    let at = Point {
-        x: right as i32,
-        y: down as i32,
-    };
     let mut block = [0u8; 64];
-    plane::copy_block(macroblock, whole, at, 8, 8, &mut block);
+    eight_samples(macroblock, n, &mut block);
+    let i = x + 8 * (n % 2);
+    let j = y + 8 * (n / 2);
     let w = range::full_pel_window(fcode, mode);
-    let winner = full::four_search(
-        &block,
-        reference,
-        geometry,
-        x + right,
-        y + down,
-        w,
-        mode,
-        seed,
-    );
+    let winner = full::four_search(&block, reference, geometry, i, j, w, mode, seed);
     let d = winner.vector;
-    sub::refine_subpel(
-        &block,
-        8,
-        reference,
-        geometry,
-        x + right,
-        y + down,
-        mode,
-        fcode,
-        d,
-    )
+    sub::refine_subpel(&block, 8, reference, geometry, i, j, mode, fcode, d)
 }
 
 // The vectors of a macroblock's four blocks.
@@ -293,17 +276,9 @@ pub fn estimate_motion_4mv(
     ensures { λ r. ⌜ r ≡ estimateFour (now (source .entry)) size place (now (reference .entry)) geometry mode bpp fcode seed ⌝ }
     ensures { λ r. ⌜ (r .reply ≡ Done → FourVectors (modeOf mode bpp) fcode seed (macroblock (now (source .entry)) size place (planeOf (now (reference .entry)) geometry)) (r .vectors) (r .sums)) ⌝ }
 {
-    let reply = four_reply(
-        source.len(),
-        size,
-        place,
-        reference.len(),
-        geometry,
-        mode,
-        bpp,
-        fcode,
-        seed,
-    );
+    let y = source.len();
+    let bytes = reference.len();
+    let reply = four_reply(y, size, place, bytes, geometry, mode, bpp, fcode, seed);
     let zero = record::zero_vector();
     match reply {
         Reply::Refused(why) => EstimatedFour {

@@ -2,18 +2,19 @@
 ghost use mathlib.Core.Path.{_≡_};
 ghost use mathlib.Core.Bool.{true};
 ghost use mathlib.Core.List.{foldl};
-ghost use Prim.Native.Nat.{_*_, _<_, _≤_};
-ghost use lib.IntN.{pos, _+ℤ_, _-ℤ_, _*ℤ_};
+ghost use Prim.Native.Nat.{_*_, _/_, _<_, _≤_};
+ghost use lib.IntN.{pos, _*ℤ_};
 ghost use lib.ListN.{length};
 ghost use Rattle.basis.specs.Parts.{above, below};
 ghost use Rattle.plane.specs.Plane.{planeOf};
 ghost use Rattle.plane.specs.Reference.{vectorInRange};
 ghost use Rattle.refusal.specs.declared.Reply.the-variants.{Done};
+ghost use Rattle.prediction.specs.Luma.{unitsPerPel};
 ghost use Rattle.prediction.specs.Macroblock.{modeReply};
 ghost use Rattle.refusal.specs.Test.{between};
 ghost use Rattle.search.specs.Range.{vectorIn};
 ghost use Rattle.search.specs.Sums.{vectorSum};
-ghost use Rattle.search.specs.Sub.{stepped, neighbour, ring, start, refined};
+ghost use Rattle.search.specs.Sub.{stepped, neighbour, ringAt, ring, start, refined};
 ghost use Rattle.search.specs.Told.{Within, Ready, Set, blockOf, consider};
 use crate::Scored;
 use crate::range;
@@ -105,6 +106,33 @@ fn neighbour(c: MotionVector, fcode: u32, step: usize, n: usize) -> MotionVector
     range::clamped(moved, fcode)
 }
 
+// Place n of the 3 x 3 around the best so far; b is the best of the places before it. The centre is passed over.
+fn ring_place(
+    source: &[u8],
+    side: usize,
+    reference: &[u8],
+    geometry: Geometry,
+    x: usize,
+    y: usize,
+    mode: BVopSampleMode,
+    fcode: u32,
+    step: usize,
+    best: Scored,
+    n: usize,
+    b: Scored,
+) -> Scored
+    requires { ⌜ Ready side (now source) (now reference) geometry x y × Set mode fcode × (step ≤ 2) × (vectorIn fcode (best .vector) ≡ true) × (n < 9) ⌝ }
+    ensures { λ r. ⌜ r ≡ foldl (consider (vectorSum mode (blockOf side (now (source .entry)) (planeOf (now (reference .entry)) geometry) x y))) b (ringAt fcode step (best .vector) n) ⌝ }
+{
+    if n == 4 {
+        return b;
+    }
+    let centre = best.vector;
+    let v = neighbour(centre, fcode, step, n);
+    let sum = vector_sum(source, side, reference, geometry, x, y, mode, v);
+    rows::consider(b, v, sum)
+}
+
 // The eight neighbours of the best so far.
 fn ring_search(
     source: &[u8],
@@ -121,16 +149,54 @@ fn ring_search(
     requires { ⌜ Ready side (now source) (now reference) geometry x y × Set mode fcode × (step ≤ 2) × (vectorIn fcode (best .vector) ≡ true) ⌝ }
     ensures { λ r. ⌜ r ≡ foldl (consider (vectorSum mode (blockOf side (now (source .entry)) (planeOf (now (reference .entry)) geometry) x y))) best (ring fcode step (best .vector)) ⌝ }
 {
-    let centre = best.vector;
     let mut b = best;
     for n in 0..9 {
-        if n != 4 {
-            let v = neighbour(centre, fcode, step, n);
-            let sum = vector_sum(source, side, reference, geometry, x, y, mode, v);
-            b = rows::consider(b, v, sum);
-        }
+        b = ring_place(
+            source,
+            side,
+            reference,
+            geometry,
+            x,
+            y,
+            mode,
+            fcode,
+            step,
+            best,
+            n,
+            b,
+        );
     }
     b
+}
+
+// The eight half a sample away.
+fn half_ring(
+    source: &[u8],
+    side: usize,
+    reference: &[u8],
+    geometry: Geometry,
+    x: usize,
+    y: usize,
+    mode: BVopSampleMode,
+    fcode: u32,
+    best: Scored,
+) -> Scored
+    requires { ⌜ Ready side (now source) (now reference) geometry x y × Set mode fcode × (vectorIn fcode (best .vector) ≡ true) ⌝ }
+    ensures { λ r. ⌜ r ≡ foldl (consider (vectorSum mode (blockOf side (now (source .entry)) (planeOf (now (reference .entry)) geometry) x y))) best (ring fcode (unitsPerPel mode / 2) (best .vector)) ⌝ }
+{
+    let step = range::units_per_pel(mode) / 2;
+    ring_search(
+        source,
+        side,
+        reference,
+        geometry,
+        x,
+        y,
+        mode,
+        fcode,
+        step,
+        best,
+    )
 }
 
 fn scaled(z: i32, units: usize) -> i32
@@ -171,19 +237,7 @@ pub fn refine_subpel(
     let vector = start(d, mode, fcode);
     let cost = vector_sum(source, side, reference, geometry, x, y, mode, vector);
     let first = Scored { vector, cost };
-    let step = range::units_per_pel(mode) / 2;
-    let half = ring_search(
-        source,
-        side,
-        reference,
-        geometry,
-        x,
-        y,
-        mode,
-        fcode,
-        step,
-        first,
-    );
+    let half = half_ring(source, side, reference, geometry, x, y, mode, fcode, first);
     match mode {
         BVopSampleMode::HalfPel => half,
         BVopSampleMode::QuarterPel(_) => ring_search(

@@ -4,19 +4,16 @@ use native.Mathlib.Omega.{arith}
 use mathlib.Core.Bool.{true}
 use mathlib.Core.List.{List}
 use mathlib.Core.Path.{_≡_, refl, ap, _∙_}
-use lib.IntN.{pos}
-use lib.ListN.{length}
 use Rattle.basis.specs.Lists.{raster}
-use Rattle.basis.proofs.Lists.{length-raster}
-use Rattle.plane.specs.Plane.{planeOf, copied}
-use Rattle.plane.specs.Source.{packed}
+use Rattle.plane.specs.Plane.{planeOf}
 use Rattle.search.specs.declared.Scored.{Scored}
 use Rattle.search.specs.Range.{vectorIn}
 use Rattle.search.specs.Sums.{eight}
 use Rattle.search.specs.Estimate.{blockVector}
 use Rattle.search.specs.Told.{Set, Ready, blockOf}
-use Rattle.search.proofs.Eights.{luma-is, four-are}
+use Rattle.search.proofs.Eights.{four-are}
 use Rattle.search.proofs.Judge.{column-most, row-most}
+use Rattle.search.proofs.SourceBlock.{samplesOf, luma-is, luma-searched}
 use borrow.Author.Needs.{needs}
 use Rattle.search.proofs.four_vectors.Statement.{statement}
 use Rattle.search.proofs.four_vectors.Tie as tie
@@ -35,7 +32,7 @@ module _ (s : tie.Start) where
   y-small = row-most _ _ _ (s .pre .0 .luma)
 
   abbrev sourceOf : ℕ → ℕ → ℕ
-  sourceOf = copied (packed (s .args .source .now) (s .args .size)) (pos x) (pos y)
+  sourceOf = samplesOf (s .args .source .now) (s .args .size) (s .args .place)
 
   -- the vector of block n of some source samples
   abbrev vectorOf : ℕ → List ℕ → Scored
@@ -48,8 +45,8 @@ startAt c = c .before .before .before .before
 abbrev local : tie.After-luma-block → List ℕ
 local c = c .luma-block .last .1 .1 .1 .0
 
-laid : (c : tie.After-luma-block) → local c ≡ raster 16 16 (sourceOf (startAt c))
-laid c =
+copied-is : (c : tie.After-luma-block) → local c ≡ raster 16 16 (sourceOf (startAt c))
+copied-is c =
     let s = startAt c in
     luma-is (s .args .source .now) (s .args .size) (s .args .place) _ _ _ (s .pre .0 .luma) refl (c .luma-block .ensures .0) (c .luma-block .ensures .1)
 
@@ -60,13 +57,7 @@ asked : (c : tie.After-luma-block) (n : ℕ) → n < 4
     Ready 16 (local c) (a .reference .now) (a .geometry) (x s) (y s) × (n < 4) × (x s ≤ 4080) × (y s ≤ 4080) × Set (a .mode) (a .fcode) × (vectorIn (a .fcode) (a .seed) ≡ true)
 asked c n h =
     let s = startAt c in (
-      record {
-        is-side = refl;
-        source-fits = ap length (laid c) ∙ length-raster 16 16 (sourceOf s);
-        reference = s .pre .0 .reference;
-        x-max = omega (arith, x-small s);
-        y-max = omega (arith, y-small s);
-      },
+      luma-searched _ _ _ _ _ _ _ (local c) (s .pre .0) (copied-is c),
       h,
       x-small s,
       y-small s,
@@ -119,7 +110,7 @@ returns c =
     let k = v0 .before .before .before .before .before in
     let s = startAt k in
     let a = s .args in
-    let e = laid k in
+    let e = copied-is k in
     four-are (a .mode) (a .fcode) (a .seed) (sourceOf s) (planeOf (a .reference .now) (a .geometry)) (x s) (y s) _ _ _ _
     (v0 .block-vector .ensures ∙ ap (vectorOf s 0) e)
     (v1 .block-vector2 .ensures ∙ ap (vectorOf s 1) e)

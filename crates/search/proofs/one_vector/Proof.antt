@@ -3,18 +3,9 @@ use Prim.Native.Nat.{ℕ, _*_, _≤_}
 use native.Mathlib.Omega.{arith}
 use mathlib.Core.List.{List}
 use mathlib.Core.Path.{_≡_, refl, sym, ap, ap₂, subst, _∙_}
-use lib.IntN.{pos}
-use lib.ListN.{length, replicate}
 use Rattle.basis.specs.Lists.{raster}
-use Rattle.basis.proofs.Lists.{length-raster}
-use Rattle.refusal.specs.declared.Reply.{Reply}
-use Rattle.refusal.specs.declared.Reply.the-variants.{Done}
-use Rattle.refusal.specs.Reply.{andThen, done}
 use Rattle.record.specs.declared.MotionVector.{MotionVector}
-use Rattle.plane.specs.Plane.{planeOf, copied}
-use Rattle.plane.specs.Reference.{lengthReply}
-use Rattle.plane.specs.Source.{packed, lumaBlock, lumaBlockReply}
-use Rattle.plane.proofs.Ready.{length-done}
+use Rattle.plane.specs.Plane.{planeOf}
 use Rattle.search.specs.declared.Scored.{Scored}
 use Rattle.search.specs.Range.{window}
 use Rattle.search.specs.Sums.{Block, vectorSum}
@@ -22,15 +13,17 @@ use Rattle.search.specs.Full.{discounted, fullWinner}
 use Rattle.search.specs.Sub.{refined}
 use Rattle.search.specs.Told.{Within, Ready, blockOf, copiedSum}
 use Rattle.search.proofs.InRange.{wider}
-use Rattle.search.proofs.Judge.{window-most, column-most, row-most}
+use Rattle.search.proofs.Judge.{column-most, row-most}
+use Rattle.search.proofs.Windows.{window-most}
 use Rattle.search.proofs.Near.{winner-within}
 use Rattle.search.proofs.Searched.{searched}
+use Rattle.search.proofs.SourceBlock.{samplesOf, luma-is, luma-searched}
 use borrow.Author.Needs.{needs}
 use Rattle.search.proofs.one_vector.Statement.{statement}
 use Rattle.search.proofs.one_vector.Tie as tie
 
 abbrev sourceOf : tie.Start → ℕ → ℕ → ℕ
-sourceOf s = let a = s .args in copied (packed (a .source .now) (a .size)) (pos (16 * a .place .column)) (pos (16 * a .place .row))
+sourceOf s = samplesOf (s .args .source .now) (s .args .size) (s .args .place)
 
 -- the block of these source samples
 abbrev blockAt : tie.Start → List ℕ → Block
@@ -39,49 +32,41 @@ blockAt s l = let a = s .args in blockOf 16 l (planeOf (a .reference .now) (a .g
 abbrev winnerOf : tie.Start → List ℕ → ℕ → MotionVector
 winnerOf s l w = fullWinner (discounted 128 (copiedSum (blockAt s l))) w (blockAt s l)
 
-accepted : (s : tie.Start) → let a = s .args in lumaBlockReply (a .size) (length (a .source .now)) (a .place) 256 ≡ Done
-accepted s = ap (λ (r : Reply). andThen r (lengthReply 256 16 16)) (s .pre .luma) ∙ length-done 256 16 16 refl
+abbrev startAt : tie.After-luma-block → tie.Start
+startAt c = c .before .before .before .before
 
--- the macroblock is copied
-laid : (c : tie.After-luma-block) → c .luma-block .last .1 .1 .1 .0 ≡ raster 16 16 (sourceOf (c .before .before .before .before))
-laid c =
-    let s = c .before .before .before .before in
-    let a = s .args in
-    let e = c .luma-block .ensures in
-    e .1 ∙ ap (λ (r : Reply). done r (lumaBlock (a .source .now) (a .size) (a .place)) (replicate 256 0)) (e .0 ∙ accepted s)
+-- the local block
+abbrev local : tie.After-luma-block → List ℕ
+local c = c .luma-block .last .1 .1 .1 .0
 
-ready : (c : tie.After-luma-block) → let s = c .before .before .before .before in
-    Ready 16 (c .luma-block .last .1 .1 .1 .0) (s .args .reference .now) (s .args .geometry) (16 * s .args .place .column) (16 * s .args .place .row)
-ready c =
-    let s = c .before .before .before .before in
-    record {
-      is-side = refl;
-      source-fits = ap length (laid c) ∙ length-raster 16 16 (sourceOf s);
-      reference = s .pre .reference;
-      x-max = omega (arith, column-most _ _ _ (s .pre .luma));
-      y-max = omega (arith, row-most _ _ _ (s .pre .luma));
-    }
+copied-is : (c : tie.After-luma-block) → local c ≡ raster 16 16 (sourceOf (startAt c))
+copied-is c =
+    let s = startAt c in
+    luma-is (s .args .source .now) (s .args .size) (s .args .place) _ _ _ (s .pre .luma) refl (c .luma-block .ensures .0) (c .luma-block .ensures .1)
+
+ready : (c : tie.After-luma-block) → let a = startAt c .args in Ready 16 (local c) (a .reference .now) (a .geometry) (16 * a .place .column) (16 * a .place .row)
+ready c = luma-searched _ _ _ _ _ _ _ (local c) (startAt c .pre) (copied-is c)
 
 small : (c : tie.After-full-pel-window) → c .full-pel-window .result ≤ 1023
 small c =
-    let s = c .before .before .before .before .before .before .before .before in
+    let s = startAt (c .before .before .before .before) in
     subst (λ (n : ℕ). n ≤ 1023) (sym (c .full-pel-window .ensures)) (window-most (s .args .mode) (s .args .fcode) (s .pre .settings .range-is))
 
 within : (c : tie.After-full-search) → Within 4096 (c .full-search .result .vector)
 within c =
     let w = c .before .before in
     let l = w .before .before .before .before in
-    let s = l .before .before .before .before in
+    let s = startAt l in
     let n = w .full-pel-window .result in
-    let b = blockAt s (l .luma-block .last .1 .1 .1 .0) in
+    let b = blockAt s (local l) in
     subst (λ (r : Scored). Within 4096 (r .vector)) (sym (c .full-search .ensures)) (wider (omega arith) (winner-within (discounted 128 (copiedSum b)) n b (small w)))
 
-won : (c : tie.After-full-search) → let s = c .before .before .before .before .before .before .before .before .before .before in
+won : (c : tie.After-full-search) → let s = startAt (c .before .before .before .before .before .before) in
     c .full-search .result .vector ≡ winnerOf s (raster 16 16 (sourceOf s)) (window (s .args .mode) (s .args .fcode))
 won c =
     let w = c .before .before in
     let l = w .before .before .before .before in
-    ap (λ (r : Scored). r .vector) (c .full-search .ensures) ∙ ap₂ (winnerOf (l .before .before .before .before)) (laid l) (w .full-pel-window .ensures)
+    ap (λ (r : Scored). r .vector) (c .full-search .ensures) ∙ ap₂ (winnerOf (startAt l)) (copied-is l) (w .full-pel-window .ensures)
 
 slice-aggregate-luma-block : tie.Need-slice-aggregate-luma-block
 slice-aggregate-luma-block c = search needs
@@ -111,17 +96,17 @@ refine-subpel-requires : tie.Need-refine-subpel-requires
 refine-subpel-requires c κs =
     let f = c .before .before in
     let l = f .before .before .before .before .before .before in
-    (ready l, l .before .before .before .before .pre .settings, within f)
+    (ready l, startAt l .pre .settings, within f)
 
 returns : tie.Need-returns
 returns c =
     let f = c .before .before .before in
     let l = f .before .before .before .before .before .before in
-    let s = l .before .before .before .before in
+    let s = startAt l in
     let a = s .args in
     let d = f .full-search .result .vector in
     c .refine-subpel .ensures
-    ∙ ap (λ (x : List ℕ). refined (vectorSum (a .mode) (blockAt s x)) (a .mode) (a .fcode) d) (laid l)
+    ∙ ap (λ (x : List ℕ). refined (vectorSum (a .mode) (blockAt s x)) (a .mode) (a .fcode) d) (copied-is l)
     ∙ searched (a .mode) (a .fcode) (sourceOf s) (planeOf (a .reference .now) (a .geometry)) (16 * a .place .column) (16 * a .place .row) d (won f)
 
 pub one-vector-spec : {M : Type 1} → statement M

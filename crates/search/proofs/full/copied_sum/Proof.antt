@@ -1,16 +1,15 @@
 -- `search::full::copied_sum` meets its contract. Assumes nothing.
-use Prim.Native.Nat.{ℕ, _+_, _-_, _*_, _≤_}
+use Prim.Native.Nat.{ℕ}
 use native.Mathlib.Omega.{arith}
-use mathlib.Core.Bool.{true}
 use mathlib.Core.List.{List}
 use mathlib.Core.Path.{_≡_, refl, ap, _∙_}
 use lib.ListN.{length}
 use borrow.Author.Needs.{needs}
 use Rattle.basis.proofs.Lists.{length-raster}
 use Rattle.plane.specs.Plane.{planeOf, copied, copiedBlock}
-use Rattle.plane.specs.Reference.{isSide}
 use Rattle.search.specs.Told.{windowSum}
-use Rattle.search.proofs.Patches.{copy-is, by-side}
+use Rattle.search.proofs.Patches.{copy-is}
+use Rattle.search.proofs.Sides.{last-row}
 use Rattle.search.proofs.full.copied_sum.Statement.{statement}
 use Rattle.search.proofs.full.copied_sum.Tie as tie
 
@@ -22,10 +21,6 @@ held c =
     let s = c .before .before .before .before .before in
     copy-is (s .args .reference .now) (s .args .geometry) (s .args .at) (s .args .at) (s .args .side) (s .args .side) (c .copy-block .result) (s .args .copy .now) _ (s .pre .2) (s .pre .3) refl (c .copy-block .ensures .0) (c .copy-block .ensures .1)
 
--- a block of its own
-whole : (side : ℕ) → isSide side ≡ true → 0 + (side - 1) * side + side ≤ side * side
-whole side e = by-side (λ (n : ℕ). 0 + (n - 1) * n + n ≤ n * n) side e (omega arith) (omega arith)
-
 copy-block-requires : tie.Need-copy-block-requires
 copy-block-requires c κs = search needs
 
@@ -33,7 +28,7 @@ block-requires : tie.Need-block-requires
 block-requires c κs =
     let k = c .before .before .before in
     let s = k .before .before .before .before .before in
-    (s .pre .0, s .pre .1, omega (arith, whole (s .args .side) (s .pre .0), ap length (held k) ∙ length-raster (s .args .side) (s .args .side) (copied (planeOf (s .args .reference .now) (s .args .geometry)) (s .args .at .x) (s .args .at .y))))
+    (s .pre .0, s .pre .1, omega (arith, last-row (s .args .side), ap length (held k) ∙ length-raster (s .args .side) (s .args .side) (copied (planeOf (s .args .reference .now) (s .args .geometry)) (s .args .at .x) (s .args .at .y))))
 
 same-length : tie.Need-same-length
 same-length c = search needs

@@ -1,13 +1,11 @@
 -- `search::full::dense_search` meets its contract. Assumes nothing.
 use Prim.Native.Nat.{ℕ, _+_, _-_, _*_, _≤_, _<_}
 use native.Mathlib.Omega.{arith}
-use mathlib.Core.List.{List, foldl}
-use mathlib.Core.Path.{_≡_, refl, sym, ap, ap₂, _∙_, subst}
+use mathlib.Core.List.{foldl}
+use mathlib.Core.Path.{_≡_, refl, sym, ap, _∙_, subst}
 use lib.IntN.{ℤ, pos, _-ℤ_}
 use lib.ListN.{length}
-use borrow.Author.Needs.{needs}
 use Rattle.basis.specs.Parts.{above, below}
-use Rattle.basis.proofs.Parts.{above-sub, below-sub}
 use Rattle.basis.proofs.Signed.{of-bits}
 use Rattle.record.specs.declared.MotionVector.{MotionVector}
 use Rattle.plane.specs.Plane.{planeOf}
@@ -17,7 +15,7 @@ use Rattle.search.specs.Places.{rowOf}
 use Rattle.search.specs.Full.{discounted, denseRowAt, denseRow}
 use Rattle.search.specs.Told.{Within, consider, keptRows, blockOf, copiedSum}
 use Rattle.search.proofs.Kept.{keptRows-more}
-use Rattle.search.proofs.Moves.{down-within}
+use Rattle.search.proofs.Moves.{down-within, lowered-within, read-small}
 use Rattle.search.proofs.Near.{rows-within}
 use Rattle.search.proofs.full.dense_search.Statement.{statement}
 use Rattle.search.proofs.full.dense_search.Tie as tie
@@ -50,14 +48,7 @@ row-is c =
     c .dense-row .ensures ∙ ap (λ (z : ℤ). denseRowAt (s .args .w) z (l .before .loop .b .vector) (l .before .loop .j)) (of-bits (s .args .best .vector .y) (c .before .struct-told .given .1 .0 .1))
 
 row-within : (w : ℕ) (y : ℤ) (d : MotionVector) (j : ℕ) → Within 1023 d → above y ≤ 1023 → below y ≤ 1023 → j < 7 → Within 4096 (denseRowAt w y d j .from)
-row-within w y d j p q r h =
-    down-within 1026 4096 (record { x = d .x -ℤ pos 3; y = y -ℤ pos 3 }) j (omega arith)
-    (record {
-      x-above = omega (arith, above-sub (d .x) (pos 3), p .x-above);
-      x-below = omega (arith, below-sub (d .x) (pos 3), p .x-below);
-      y-above = omega (arith, above-sub y (pos 3));
-      y-below = omega (arith, below-sub y (pos 3));
-    })
+row-within w y d j p q r h = down-within 1026 4096 (record { x = d .x -ℤ pos 3; y = y -ℤ pos 3 }) j (omega arith) (lowered-within 1023 1026 3 (d .x) y (omega arith) (p .x-above) (p .x-below) q r)
 
 loop-holds : tie.Need-loop-holds Inv-loop μ-loop
 unfolding keptRows
@@ -68,7 +59,8 @@ dense-row-requires c κs =
     let l = c .before .before in
     let s = start l in
     let y = s .args .best .vector .y in
-    (best-within l, subst (λ (z : ℤ). above z ≤ 1023) (sym (of-bits y (c .struct-told .given .1 .0 .1))) (s .pre .2 .y-above), subst (λ (z : ℤ). below z ≤ 1023) (sym (of-bits y (c .struct-told .given .1 .0 .1))) (s .pre .2 .y-below), l .loop-test .taken)
+    let v = read-small 1023 1023 y (omega arith) (of-bits y (c .struct-told .given .1 .0 .1)) (s .pre .2 .y-above) (s .pre .2 .y-below) in
+    (best-within l, v .0, v .1, l .loop-test .taken)
 
 slice-aggregate-strip-search : tie.Need-slice-aggregate-strip-search Inv-loop μ-loop
 slice-aggregate-strip-search c = sym (c .before .before .before .before .before .loop .inv .1)

@@ -1,14 +1,11 @@
 -- `search::full::four_search` meets its contract. Assumes nothing.
-use Prim.Native.Nat.{ℕ, _≤_}
-use native.Mathlib.Nat.{div-le-self}
+use Prim.Native.Nat.{ℕ}
 use native.Mathlib.Omega.{arith}
 use mathlib.Core.List.{foldl}
 use mathlib.Core.Path.{refl, sym, ap, ap₂, _∙_, subst}
-use lib.IntN.{ℤ, pos, _-ℤ_}
+use lib.IntN.{pos}
 use lib.Signed.{quotZ}
 use borrow.Author.Needs.{needs}
-use Rattle.basis.specs.Parts.{above, below}
-use Rattle.basis.proofs.Parts.{above-sub, below-sub, above-quot, below-quot}
 use Rattle.record.specs.declared.MotionVector.{MotionVector}
 use Rattle.record.specs.Zero.{zeroVector}
 use Rattle.plane.specs.Plane.{planeOf}
@@ -19,20 +16,17 @@ use Rattle.search.specs.Places.{squareOf}
 use Rattle.search.specs.Full.{discounted, seedFrom}
 use Rattle.search.specs.Told.{Within, atCost, consider, blockOf, copiedSum}
 use Rattle.search.proofs.FullSearch.{four-is}
+use Rattle.search.proofs.Moves.{lowered-within, quotient-small}
 use Rattle.search.proofs.WholeSums.{no-discount}
 use Rattle.search.proofs.full.four_search.Statement.{statement}
 use Rattle.search.proofs.full.four_search.Tie as tie
 
-part-within : (z : ℤ) (u : ℕ) → above z ≤ 2048 → below z ≤ 2048 → (above (quotZ z (pos u) -ℤ pos 2) ≤ 4000) × (below (quotZ z (pos u) -ℤ pos 2) ≤ 4000)
-part-within z u p q =
-    let y = quotZ z (pos u) in
-    (omega (arith, above-sub y (pos 2), above-quot z u, div-le-self (above z) u), omega (arith, below-sub y (pos 2), below-quot z u, div-le-self (below z) u))
-
 from-within : (m : BVopSampleMode) (seed : MotionVector) → Within 2048 seed → Within 4000 (seedFrom m seed)
 from-within m seed h =
-    let x = part-within (seed .x) (unitsPerPel m) (h .x-above) (h .x-below) in
-    let y = part-within (seed .y) (unitsPerPel m) (h .y-above) (h .y-below) in
-    record { x-above = x .0; x-below = x .1; y-above = y .0; y-below = y .1 }
+    let u = unitsPerPel m in
+    let x = quotient-small (seed .x) u 2048 (h .x-above) (h .x-below) in
+    let y = quotient-small (seed .y) u 2048 (h .y-above) (h .y-below) in
+    lowered-within 2048 4000 2 (quotZ (seed .x) (pos u)) (quotZ (seed .y) (pos u)) (omega arith) (x .0) (x .1) (y .0) (y .1)
 
 zero-start-requires : tie.Need-zero-start-requires
 zero-start-requires c κs = search needs

@@ -1,30 +1,28 @@
 -- `search::full::lattice_search` meets its contract. Assumes nothing.
-use Prim.Native.Nat.{ℕ, _+_, _-_, _*_, _/_, _≤_, _<_, min}
+use Prim.Native.Nat.{ℕ, _+_, _-_, _*_, _≤_, _<_, min}
 use native.Mathlib.Omega.{arith}
 use mathlib.Core.List.{List, foldl}
 use mathlib.Core.Path.{_≡_, refl, sym, ap, ap₂, _∙_, subst}
-use lib.IntN.{pos, negℤ}
-use lib.ListN.{length, take, length-take}
-use borrow.Author.Needs.{needs}
+use lib.IntN.{pos}
+use lib.ListN.{length, length-take}
 use Rattle.basis.specs.Lists.{rows}
-use Rattle.basis.proofs.Lists.{fold-rows}
 use Rattle.basis.proofs.Slices.{put-length}
 use Rattle.basis.proofs.Parts.{above-neg, below-neg}
 use Rattle.record.specs.declared.MotionVector.{MotionVector}
 use Rattle.plane.specs.Plane.{planeOf}
 use Rattle.plane.proofs.Ready.{usable}
-use Rattle.search.specs.declared.Scored.{Scored}
-use Rattle.search.specs.Places.{down, rowOf, back, places, latticeFrom, lattice}
+use Rattle.search.specs.declared.Row.{Row}
+use Rattle.search.specs.Places.{down, rowOf, back, places, latticeFrom, latticeRowAt, lattice}
 use Rattle.search.specs.Full.{discounted}
 use Rattle.search.specs.Told.{Within, consider, blockOf, copiedSum}
-use Rattle.search.proofs.InRange.{wider}
+use Rattle.search.proofs.Kept.{pieces-more}
 use Rattle.search.proofs.Moves.{down-within}
 use Rattle.search.proofs.full.lattice_search.Statement.{statement}
 use Rattle.search.proofs.full.lattice_search.Tie as tie
 
 -- row j of the lattice
 abbrev lineOf : MotionVector → ℕ → ℕ → ℕ → List MotionVector
-lineOf from count w j = rowOf (record { from = down from (4 * j); step = 4; count = count; near = 9; far = w })
+lineOf from count w j = rowOf (latticeRowAt w from count j)
 
 abbrev Inv-loop : tie.InvT-loop
 Inv-loop source reference geometry x y w strip₀ from count lines size b₀ j₀ strip b j =
@@ -33,13 +31,6 @@ Inv-loop source reference geometry x y w strip₀ from count lines size b₀ j�
 
 abbrev μ-loop : tie.MeasureT-loop
 μ-loop source reference geometry x y w strip₀ from count lines size b₀ j₀ strip b j = lines - j
-
--- one row more
-turn : (f : Scored → MotionVector → Scored) (s b : Scored) (from d : MotionVector) (count w j : ℕ) → b ≡ foldl f s (rows j (lineOf from count w)) → d ≡ down from (4 * j)
-    → foldl f b (rowOf (record { from = d; step = 4; count = count; near = 9; far = w })) ≡ foldl f s (rows (j + 1) (lineOf from count w))
-turn f s b from d count w j e g =
-    ap₂ (λ (b : Scored) (d : MotionVector). foldl f b (rowOf (record { from = d; step = 4; count = count; near = 9; far = w }))) e g
-    ∙ sym (fold-rows f s j (lineOf from count w))
 
 -- there are at most 512 places, and the first is inside the window
 few : (w m size n : ℕ) → w ≤ 1023 → n ≡ places w m size → n ≤ 512
@@ -110,22 +101,19 @@ loop-holds : tie.Need-loop-holds Inv-loop μ-loop
 unfolding rows
 loop-holds c = (less-all _, refl, refl)
 
-mul-down : tie.Need-mul-down Inv-loop μ-loop
-mul-down c = record { fits = omega (arith, lines c, c .loop-test .taken) }
-
-down-requires : tie.Need-down-requires Inv-loop μ-loop
-down-requires c κs =
+from-within : (c : tie.In-loop Inv-loop μ-loop) → Within 1023 (c .before .before .before .before .lattice-from .result)
+from-within c =
     let s = start c in
-    (subst (Within 4096) (sym (c .before .before .before .before .lattice-from .ensures)) (wider (omega arith) (first-within (s .args .w) (s .args .x) (s .args .y) (s .pre .1))), omega (arith, lines c, c .loop-test .taken))
+    subst (Within 1023) (sym (c .before .before .before .before .lattice-from .ensures)) (first-within (s .args .w) (s .args .x) (s .args .y) (s .pre .1))
+
+lattice-row-requires : tie.Need-lattice-row-requires Inv-loop μ-loop
+lattice-row-requires c κs = (from-within c, omega (arith, lines c, c .loop-test .taken))
 
 run : (n : ℕ) → n ≤ 512 → 4 * n ≤ 4096
 run n h = omega arith
 
 moved : (c : tie.In-loop Inv-loop μ-loop) → Within 4096 (down (c .before .before .before .before .lattice-from .result) (4 * c .before .loop .j))
-moved c =
-    let s = start c in
-    subst (λ (d : MotionVector). Within 4096 (down d (4 * c .before .loop .j))) (sym (c .before .before .before .before .lattice-from .ensures))
-    (down-within 1023 4096 (latticeFrom (s .args .w) (s .args .x) (s .args .y)) (4 * c .before .loop .j) (far (c .before .loop .j) _ (c .loop-test .taken) (lines c)) (first-within (s .args .w) (s .args .x) (s .args .y) (s .pre .1)))
+moved c = down-within 1023 4096 _ (4 * c .before .loop .j) (far (c .before .loop .j) _ (c .loop-test .taken) (lines c)) (from-within c)
   where
     far : (j n : ℕ) → j < n → n ≤ 512 → 1023 + 4 * j ≤ 4096
     far j n h k = omega arith
@@ -146,14 +134,19 @@ strip-search-requires c κs =
     let k = c .before in
     let l = k .before in
     let s = start l in
-    (s .pre .0, subst (Within 4096) (sym (k .down .ensures)) (moved l), run _ (columns l), s .pre .1, simp (length-take) (strip-is _ _ (columns l) (l .before .loop .inv .1)))
+    let e = sym (k .lattice-row .ensures) in (
+      s .pre .0,
+      subst (λ (r : Row). Within 4096 (r .from)) e (moved l),
+      subst (λ (r : Row). r .step * r .count ≤ 4096) e (run _ (columns l)),
+      subst (λ (r : Row). r .far ≤ 1023) e (s .pre .1),
+      simp (length-take) (strip-is _ _ (columns l) (l .before .loop .inv .1)) ∙ ap (λ (r : Row). (16 + r .step * r .count) * 16) e,
+    )
 
 lent : (k : tie.After-strip-search Inv-loop μ-loop) → 0 + length (k .strip-search .last .1 .1 .1 .1 .1 .1 .0) ≡ (16 + 4 * k .before .before .before .before .before .before .places .result) * 16
 lent k =
     let l = k .before .before .before in
     let n = (16 + 4 * l .before .before .before .places .result) * 16 in
-    let same : length (k .strip-search .last .1 .1 .1 .1 .1 .1 .0) ≡ length (take (n - 0) (l .before .loop .strip)) = search needs in
-    none (length (k .strip-search .last .1 .1 .1 .1 .1 .1 .0)) ∙ same ∙ length-take (n - 0) (l .before .loop .strip) ∙ strip-is _ _ (columns l) (l .before .loop .inv .1)
+    none (length (k .strip-search .last .1 .1 .1 .1 .1 .1 .0)) ∙ k .strip-search .kept .1 .1 .1 .1 .1 .1 .0 ∙ length-take (n - 0) (l .before .loop .strip) ∙ strip-is _ _ (columns l) (l .before .loop .inv .1)
   where
     none : (n : ℕ) → 0 + n ≡ n
     none n = omega arith
@@ -178,7 +171,7 @@ loop-again c =
       omega (arith, l .loop-test .taken),
       put-length (l .before .loop .strip) (k .strip-search .last .1 .1 .1 .1 .1 .1 .0) 0 ((16 + 4 * l .before .before .before .places .result) * 16) (lent k) (fit _ _ (columns l) (l .before .loop .inv .1)) ∙ l .before .loop .inv .1,
       k .strip-search .ensures
-          ∙ turn (consider (discounted 128 (copiedSum (blockOf 16 (s .args .source .now) (planeOf (s .args .reference .now) (s .args .geometry)) (s .args .x) (s .args .y))))) (s .args .best) (l .before .loop .b) (l .before .before .before .before .lattice-from .result) (k .before .before .down .result) (l .before .before .before .places .result) (s .args .w) (l .before .loop .j) (l .before .loop .inv .2) (k .before .before .down .ensures),
+          ∙ pieces-more (consider (discounted 128 (copiedSum (blockOf 16 (s .args .source .now) (planeOf (s .args .reference .now) (s .args .geometry)) (s .args .x) (s .args .y))))) (s .args .best) (l .before .loop .b) (lineOf (l .before .before .before .before .lattice-from .result) (l .before .before .before .places .result) (s .args .w)) (l .before .loop .j) (l .before .loop .inv .2) (ap rowOf (k .before .before .lattice-row .ensures)),
     )
 
 returns : tie.Need-returns Inv-loop μ-loop
@@ -208,8 +201,7 @@ lattice-search-spec =
     add-size
     mul-size-2
     loop-holds
-    mul-down
-    down-requires
+    lattice-row-requires
     sub-strip-search
     part-strip-start
     part-strip-end

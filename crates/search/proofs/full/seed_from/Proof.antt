@@ -1,8 +1,7 @@
 -- `search::full::seed_from` meets its contract. Assumes nothing.
 use Prim.Native.Nat.{ℕ, _≤_}
-use native.Mathlib.Nat.{div-le-self}
 use native.Mathlib.Omega.{arith}
-use mathlib.Core.Path.{_≡_, sym, ap, _∙_, subst}
+use mathlib.Core.Path.{_≡_, ap, _∙_}
 use lib.IntN.{ℤ, pos, _-ℤ_}
 use lib.Signed.{quotZ}
 use mir.Syntax.{w32}
@@ -10,17 +9,18 @@ use mir.Val.{toZ, ofZ}
 use mir.Facts.{toZ-ofZ}
 use borrow.Author.Needs.{sfits-of, needs}
 use Rattle.basis.specs.Parts.{above, below}
-use Rattle.basis.proofs.Parts.{above-quot, below-quot}
 use Rattle.basis.proofs.Signed.{of-bits}
 use Rattle.prediction.specs.Luma.{unitsPerPel}
+use Rattle.search.proofs.Moves.{quotient-small, read-small}
 use Rattle.search.proofs.full.seed_from.Statement.{statement}
 use Rattle.search.proofs.full.seed_from.Tie as tie
 
 -- a component of a seed in range, divided, is small
-small : (z y : ℤ) (u : ℕ) → y ≡ quotZ z (pos u) → above z ≤ 2048 → below z ≤ 2048 → (above y ≤ 4096) × (below y ≤ 4096) × (2 ≤ 4096)
-small z y u e p q =
-    subst (λ (v : ℤ). (above v ≤ 4096) × (below v ≤ 4096) × (2 ≤ 4096)) (sym e)
-    (omega (arith, p, above-quot z u, div-le-self (above z) u), omega (arith, q, below-quot z u, div-le-self (below z) u), omega arith)
+small : (z : ℤ) (u : ℕ) {v : ℤ} → v ≡ quotZ z (pos u) → above z ≤ 2048 → below z ≤ 2048 → (above v ≤ 4096) × (below v ≤ 4096) × (2 ≤ 4096)
+small z u e p q =
+    let k = quotient-small z u 2048 p q in
+    let v = read-small 2048 4096 (quotZ z (pos u)) (omega arith) e (k .0) (k .1) in
+    (v .0, v .1, omega arith)
 
 across : (c : tie.After-divided) → toZ w32 (ofZ w32 (c .divided .result)) ≡ quotZ (c .before .before .args .seed .x) (pos (unitsPerPel (c .before .before .args .mode)))
 across c =
@@ -42,7 +42,7 @@ divided-requires c κs = search needs
 lowered-requires : tie.Need-lowered-requires
 lowered-requires c κs =
     let s = c .before .before in
-    small (s .args .seed .x) _ _ (across c) (s .pre .x-above) (s .pre .x-below)
+    small (s .args .seed .x) _ (across c) (s .pre .x-above) (s .pre .x-below)
 
 divided-requires-2 : tie.Need-divided-requires-2
 divided-requires-2 c κs = search needs
@@ -50,7 +50,7 @@ divided-requires-2 c κs = search needs
 lowered-requires-2 : tie.Need-lowered-requires-2
 lowered-requires-2 c κs =
     let s = c .before .before .before .before .before in
-    small (s .args .seed .y) _ _ (along c) (s .pre .y-above) (s .pre .y-below)
+    small (s .args .seed .y) _ (along c) (s .pre .y-above) (s .pre .y-below)
 
 returns : tie.Need-returns
 returns c =

@@ -3,24 +3,23 @@ use Prim.Native.Nat.{ℕ, _+_, _-_, _*_, _≤_, _<_}
 use native.Mathlib.Nat.{mul-le-mul}
 use borrow.Author.Needs.{needs}
 use native.Mathlib.Omega.{arith}
-use mathlib.Core.Bool.{true}
 use mathlib.Core.List.{List, foldl}
-use mathlib.Core.Path.{_≡_, refl, sym, ap, ap₂, _∙_, subst}
+use mathlib.Core.Path.{_≡_, refl, sym, ap, _∙_, subst}
 use lib.IntN.{pos, _+ℤ_}
 use lib.ListN.{length}
 use Rattle.basis.specs.Lists.{rows}
-use Rattle.basis.proofs.Lists.{length-raster, fold-rows}
+use Rattle.basis.proofs.Lists.{length-raster}
 use Rattle.record.specs.declared.MotionVector.{MotionVector}
 use Rattle.plane.specs.Plane.{Plane, planeOf, copied, copiedBlock}
-use Rattle.plane.specs.Reference.{isSide}
-use Rattle.search.specs.declared.Row.{Row}
 use Rattle.search.specs.declared.Scored.{Scored}
 use Rattle.search.specs.Places.{down, rowOf, squareOf}
 use Rattle.search.specs.Full.{discounted}
-use Rattle.search.specs.Told.{Within, consider, blockOf, copiedSum, movedTo, Shown, Rowed}
+use Rattle.search.specs.Told.{Within, consider, blockOf, copiedSum, movedTo, Shown}
 use Rattle.search.proofs.InRange.{wider}
+use Rattle.search.proofs.Kept.{pieces-more}
 use Rattle.search.proofs.Moves.{down-within}
-use Rattle.search.proofs.Patches.{copy-is, patch-shown, narrower, patch-room, by-side}
+use Rattle.search.proofs.Patches.{copy-is, patch-shown, narrower, patch-room}
+use Rattle.search.proofs.Sides.{side-least, side-most}
 use Rattle.search.proofs.full.square_search.Statement.{statement}
 use Rattle.search.proofs.full.square_search.Tie as tie
 
@@ -39,16 +38,6 @@ Inv-loop source side reference x y patch from count far discount width b₀ j₀
 
 abbrev μ-loop : tie.MeasureT-loop
 μ-loop source side reference x y patch from count far discount width b₀ j₀ b j = count - j
-
-sides : (n : ℕ) → isSide n ≡ true → (1 ≤ n) × (n ≤ 16)
-sides n e = by-side (λ (n : ℕ). (1 ≤ n) × (n ≤ 16)) n e (omega arith, omega arith) (omega arith, omega arith)
-
--- one row more
-turn : (f : Scored → MotionVector → Scored) (s b : Scored) (from d : MotionVector) (count far j : ℕ) → b ≡ foldl f s (rows j (lineOf from count far)) → d ≡ down from j
-    → foldl f b (rowOf (record { from = d; step = 1; count = count; near = 0; far = far })) ≡ foldl f s (rows (j + 1) (lineOf from count far))
-turn f s b from d count far j e g =
-    ap₂ (λ (b : Scored) (d : MotionVector). foldl f b (rowOf (record { from = d; step = 1; count = count; near = 0; far = far }))) e g
-    ∙ sym (fold-rows f s j (lineOf from count far))
 
 abbrev start : (c : tie.In-loop Inv-loop μ-loop) → tie.Start Inv-loop μ-loop
 start c = c .before .before .before .before .before .before .before .before .before .before
@@ -81,7 +70,7 @@ room : (c : tie.In-loop Inv-loop μ-loop) (k : ℕ) → k < start c .args .count
 room c k h =
     let s = start c in
     let w = s .args .side + s .args .count - 1 in
-    patch-room w w (s .args .side) (c .before .loop .j) k (sides (s .args .side) (s .pre .0 .is-side) .0) (omega (arith, c .loop-test .taken)) (omega (arith, h))
+    patch-room w w (s .args .side) (c .before .loop .j) k (side-least (s .args .side) (s .pre .0 .is-side)) (omega (arith, c .loop-test .taken)) (omega (arith, h))
 
 squared : (w : ℕ) → w ≤ 40 → w * w ≤ 1600
 squared w h = omega (arith, mul-le-mul h h)
@@ -89,7 +78,7 @@ squared w h = omega (arith, mul-le-mul h h)
 add-width : tie.Need-add-width Inv-loop μ-loop
 add-width c =
     let s = c .before .before .before in
-    record { fits = omega (arith, sides (s .args .side) (s .pre .0 .is-side) .1, s .pre .3) }
+    record { fits = omega (arith, side-most (s .args .side) (s .pre .0 .is-side), s .pre .3) }
 
 sub-width : tie.Need-sub-width Inv-loop μ-loop
 sub-width c = omega (arith, c .before .before .before .pre .2)
@@ -115,7 +104,7 @@ mul-row-search : tie.Need-mul-row-search Inv-loop μ-loop
 mul-row-search c =
     let l = c .before .before in
     let s = start l in
-    record { fits = omega (arith, room l 0 (s .pre .2), s .pre .5, squared (s .args .side + s .args .count - 1) (omega (arith, sides (s .args .side) (s .pre .0 .is-side) .1, s .pre .3))) }
+    record { fits = omega (arith, room l 0 (s .pre .2), s .pre .5, squared (s .args .side + s .args .count - 1) (omega (arith, side-most (s .args .side) (s .pre .0 .is-side), s .pre .3))) }
 
 row-search-requires : tie.Need-row-search-requires Inv-loop μ-loop
 row-search-requires c κs =
@@ -149,7 +138,8 @@ loop-again c =
             (subst (λ (d : MotionVector). Shown (s .args .side) p (s .args .x) (s .args .y) d (l .before .before .before .before .copy-block .last .1 .1 .1 .1 .1 .0) (l .before .loop .j * w) w (1 * (s .args .count - 1) + s .args .side)) (sym (c .before .before .down .ensures))
             (narrower w (1 * (s .args .count - 1) + s .args .side) (omega (arith, s .pre .2))
             (patch-shown p (s .args .x) (s .args .y) (s .args .from) w w (s .args .side) (l .before .loop .j) _ (omega (arith, l .loop-test .taken)) e)))
-            ∙ turn (consider (discounted (s .args .discount) (copiedSum (blockOf (s .args .side) (s .args .source .now) p (s .args .x) (s .args .y))))) (s .args .best) (l .before .loop .b) (s .args .from) (c .before .before .down .result) (s .args .count) (s .args .far) (l .before .loop .j) (l .before .loop .inv .1 .kept p e) (c .before .before .down .ensures);
+            ∙ pieces-more (consider (discounted (s .args .discount) (copiedSum (blockOf (s .args .side) (s .args .source .now) p (s .args .x) (s .args .y))))) (s .args .best) (l .before .loop .b) (lineOf (s .args .from) (s .args .count) (s .args .far)) (l .before .loop .j) (l .before .loop .inv .1 .kept p e)
+            (ap (λ (d : MotionVector). rowOf (record { from = d; step = 1; count = s .args .count; near = 0; far = s .args .far })) (c .before .before .down .ensures));
       },
     )
 

@@ -1,24 +1,18 @@
 -- `search::full::strip_search` meets its contract. Assumes nothing.
 use Prim.Native.Nat.{ℕ, _+_, _-_, _*_, _≤_, _<_}
-use native.Mathlib.Nat.{mul-le-mul-left, mul-comm}
+use native.Mathlib.Nat.{mul-le-mul-left}
 use native.Mathlib.Omega.{arith}
-use mathlib.Core.Bool.{true}
-use mathlib.Core.List.{List}
-use mathlib.Core.Path.{_≡_, refl, sym, ap, _∙_}
+use mathlib.Core.Path.{_≡_, ap, _∙_}
 use lib.IntN.{pos, _+ℤ_}
 use lib.ListN.{length}
 use borrow.Author.Needs.{needs}
 use Rattle.basis.proofs.Lists.{length-raster}
 use Rattle.plane.specs.Plane.{planeOf, copied, copiedBlock}
-use Rattle.plane.specs.Reference.{isSide}
-use Rattle.search.specs.declared.Row.{Row}
-use Rattle.search.specs.Told.{movedTo, Rowed}
-use Rattle.search.proofs.Patches.{copy-is, strip-shown, narrower, patch-room, by-side}
+use Rattle.search.specs.Told.{movedTo}
+use Rattle.search.proofs.Patches.{copy-is, strip-shown, narrower, patch-room}
+use Rattle.search.proofs.Sides.{side-least, side-most}
 use Rattle.search.proofs.full.strip_search.Statement.{statement}
 use Rattle.search.proofs.full.strip_search.Tie as tie
-
-sides : (n : ℕ) → isSide n ≡ true → (1 ≤ n) × (n ≤ 16)
-sides n e = by-side (λ (n : ℕ). (1 ≤ n) × (n ≤ 16)) n e (omega arith, omega arith) (omega arith, omega arith)
 
 -- what the strip then holds
 held : (c : tie.After-copy-block)
@@ -48,7 +42,7 @@ mul-width c = search needs
 add-width : tie.Need-add-width
 add-width c =
     let s = c .before .before .before .before in
-    record { fits = omega (arith, s .pre .2, sides (s .args .side) (s .pre .0 .is-side)) }
+    record { fits = omega (arith, s .pre .2, side-most (s .args .side) (s .pre .0 .is-side)) }
 
 moved-to-requires : tie.Need-moved-to-requires
 moved-to-requires c κs = search needs
@@ -67,7 +61,7 @@ row-search-requires c κs =
     record {
       is-side = s .pre .0 .is-side;
       source-fits = s .pre .0 .source-fits;
-      fits = λ i h. omega (arith, long, patch-room w side side 0 (r .step * i) (sides side (s .pre .0 .is-side) .0) (omega arith) (inside side (r .step) (r .count) i h));
+      fits = λ i h. omega (arith, long, patch-room w side side 0 (r .step * i) (side-least side (s .pre .0 .is-side)) (omega arith) (inside side (r .step) (r .count) i h));
       from-small = s .pre .1;
       run-small = s .pre .2;
       far-small = s .pre .3;

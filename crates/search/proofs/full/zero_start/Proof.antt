@@ -1,29 +1,22 @@
 -- `search::full::zero_start` meets its contract. Assumes nothing.
-use Prim.Native.Nat.{ℕ, _-_, _*_, _≤_}
+use Prim.Native.Nat.{ℕ, _-_}
 use native.Mathlib.Omega.{arith}
-use mathlib.Core.Bool.{true}
 use mathlib.Core.Path.{_≡_, refl, sym, ap, ap₂, _∙_, subst}
 use borrow.Author.Needs.{needs}
-use Rattle.record.specs.declared.MotionVector.{MotionVector}
 use Rattle.record.specs.Zero.{zeroVector}
 use Rattle.plane.specs.declared.Point.{Point}
 use Rattle.plane.specs.Plane.{planeOf, copiedBlock}
-use Rattle.plane.specs.Reference.{isSide}
-use Rattle.search.specs.declared.Scored.{Scored}
 use Rattle.search.specs.Sub.{scored}
 use Rattle.search.specs.Told.{Within, windowSum, movedTo, blockOf, copiedSum}
 use Rattle.search.proofs.Near.{zero-within}
-use Rattle.search.proofs.Patches.{by-side, strip-shown}
+use Rattle.search.proofs.Patches.{strip-shown}
 use Rattle.search.proofs.Shown.{shown-sum}
+use Rattle.search.proofs.Sides.{area-most}
 use Rattle.search.proofs.full.zero_start.Statement.{statement}
 use Rattle.search.proofs.full.zero_start.Tie as tie
 
--- a block has room in 256 samples
-room : (side : ℕ) → isSide side ≡ true → side * side ≤ 256
-room side e = by-side (λ (n : ℕ). n * n ≤ 256) side e (omega arith) (omega arith)
-
 mul-size : tie.Need-mul-size
-mul-size c = record { fits = omega (arith, room (c .before .before .args .side) (c .before .before .pre .is-side)) }
+mul-size c = record { fits = omega (arith, area-most (c .before .before .args .side) (c .before .before .pre .is-side)) }
 
 zero-vector-requires : tie.Need-zero-vector-requires
 zero-vector-requires c κs = search needs
@@ -42,7 +35,7 @@ part-copy-start c = search needs
 part-copy-end : tie.Need-part-copy-end
 part-copy-end c =
     let s = c .before .before .before .before in
-    omega (arith, room (s .args .side) (s .pre .is-side))
+    omega (arith, area-most (s .args .side) (s .pre .is-side))
 
 copied-sum-requires : tie.Need-copied-sum-requires
 copied-sum-requires c κs = search needs

@@ -1,25 +1,13 @@
 -- `search::range::clamped` meets its contract. Assumes nothing.
-use mathlib.Core.Path.{_≡_, ap, ap₂, _∙_}
-use lib.IntN.{ℤ, pos, _-ℤ_}
+use mathlib.Core.Path.{_∙_}
 use mir.Syntax.{w32}
-use mir.Val.{toZ, ofZ}
 use mir.Facts.{toZ-ofZ}
 use borrow.Author.Needs.{sfits-of, needs}
 use Rattle.basis.proofs.Signed.{of-bits}
-use Rattle.search.specs.Range.{low, high, clampZ}
-use Rattle.search.proofs.Ends.{low-fits, low-read, high-fits, high-read}
+use Rattle.search.specs.Range.{clampZ}
+use Rattle.search.proofs.Ends.{low-fits, high-fits, between-ends}
 use Rattle.search.proofs.range.clamped.Statement.{statement}
 use Rattle.search.proofs.range.clamped.Tie as tie
-
--- a number that was clamped, between the ends as the code has them
-clamped-is : (c : tie.After-range) (z z′ r : ℤ) → z′ ≡ z
-    → r ≡ clampZ (toZ w32 (ofZ w32 (pos 0 -ℤ toZ w32 (c .range .result)))) (toZ w32 (ofZ w32 (toZ w32 (c .range .result) -ℤ pos 1))) z′
-    → r ≡ clampZ (low (c .before .args .fcode)) (high (c .before .args .fcode)) z
-clamped-is c z z′ r k e =
-    let p = c .range .ensures in
-    let f = c .before .args .fcode in
-    let n = c .range .result in
-    e ∙ ap₂ (λ (l h : ℤ). clampZ l h z′) (low-read f n (p .0) (p .1) (p .2)) (high-read f n (p .0) (p .1) (p .2)) ∙ ap (clampZ (low f) (high f)) k
 
 range-requires : tie.Need-range-requires
 range-requires c κs = search needs
@@ -50,8 +38,11 @@ returns c =
     let a = c .before .before in
     let n = a .before .before in
     let v = n .before .args .v in
-    let x = toZ-ofZ (sfits-of {w = w32} (a .clamp .ok)) ∙ clamped-is n (v .x) (toZ w32 (ofZ w32 (v .x))) (a .clamp .result) (of-bits (v .x) (a .before .struct-told .given .0 .1)) (a .clamp .ensures) in
-    let y = toZ-ofZ (sfits-of {w = w32} (c .clamp2 .ok)) ∙ clamped-is n (v .y) (toZ w32 (ofZ w32 (v .y))) (c .clamp2 .result) (of-bits (v .y) (c .before .struct-told2 .given .1 .0 .1)) (c .clamp2 .ensures) in
+    let f = n .before .args .fcode in
+    let k = n .range .result in
+    let p = n .range .ensures in
+    let x = toZ-ofZ (sfits-of {w = w32} (a .clamp .ok)) ∙ between-ends f k (p .0) (p .1) (p .2) clampZ (v .x) (of-bits (v .x) (a .before .struct-told .given .0 .1)) (a .clamp .ensures) in
+    let y = toZ-ofZ (sfits-of {w = w32} (c .clamp2 .ok)) ∙ between-ends f k (p .0) (p .1) (p .2) clampZ (v .y) (of-bits (v .y) (c .before .struct-told2 .given .1 .0 .1)) (c .clamp2 .ensures) in
     λ i. record { x = x i; y = y i }
 
 pub clamped-spec : {M : Type 1} → statement M

@@ -1,26 +1,12 @@
 -- `search::range::vector_in` meets its contract. Assumes nothing.
 use mathlib.Core.Bool.{Bool, _&&_}
-use mathlib.Core.Path.{_≡_, ap, ap₂, _∙_}
-use lib.IntN.{ℤ, pos, _-ℤ_}
-use mir.Syntax.{w32}
-use mir.Val.{toZ, ofZ}
+use mathlib.Core.Path.{ap₂, _∙_}
 use borrow.Author.Needs.{needs}
 use Rattle.basis.proofs.Signed.{of-bits}
 use Rattle.refusal.specs.Test.{inRange}
-use Rattle.search.specs.Range.{low, high}
-use Rattle.search.proofs.Ends.{low-fits, low-read, high-fits, high-read}
+use Rattle.search.proofs.Ends.{low-fits, high-fits, between-ends}
 use Rattle.search.proofs.range.vector_in.Statement.{statement}
 use Rattle.search.proofs.range.vector_in.Tie as tie
-
--- a test of a number between the ends as the code has them
-tested : (c : tie.After-range) (z z′ : ℤ) (r : Bool) → z′ ≡ z
-    → r ≡ inRange (toZ w32 (ofZ w32 (pos 0 -ℤ toZ w32 (c .range .result)))) (toZ w32 (ofZ w32 (toZ w32 (c .range .result) -ℤ pos 1))) z′
-    → r ≡ inRange (low (c .before .args .fcode)) (high (c .before .args .fcode)) z
-tested c z z′ r k e =
-    let p = c .range .ensures in
-    let f = c .before .args .fcode in
-    let n = c .range .result in
-    e ∙ ap₂ (λ (l h : ℤ). inRange l h z′) (low-read f n (p .0) (p .1) (p .2)) (high-read f n (p .0) (p .1) (p .2)) ∙ ap (inRange (low f) (high f)) k
 
 range-requires : tie.Need-range-requires
 range-requires c κs = search needs
@@ -55,10 +41,13 @@ returns c =
     let a = b .before .before in
     let n = a .before .before in
     let v = n .before .args .v in
+    let f = n .before .args .fcode in
+    let k = n .range .result in
+    let p = n .range .ensures in
     c .both .ensures
     ∙ ap₂ (λ (p q : Bool). p && q)
-    (tested n (v .x) (toZ w32 (ofZ w32 (v .x))) (a .in-range .result) (of-bits (v .x) (a .before .struct-told .given .0 .1)) (a .in-range .ensures))
-    (tested n (v .y) (toZ w32 (ofZ w32 (v .y))) (b .in-range2 .result) (of-bits (v .y) (b .before .struct-told2 .given .1 .0 .1)) (b .in-range2 .ensures))
+    (between-ends f k (p .0) (p .1) (p .2) inRange (v .x) (of-bits (v .x) (a .before .struct-told .given .0 .1)) (a .in-range .ensures))
+    (between-ends f k (p .0) (p .1) (p .2) inRange (v .y) (of-bits (v .y) (b .before .struct-told2 .given .1 .0 .1)) (b .in-range2 .ensures))
 
 pub vector-in-spec : {M : Type 1} → statement M
 vector-in-spec =

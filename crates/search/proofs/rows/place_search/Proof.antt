@@ -6,7 +6,7 @@ use borrow.Author.Needs.{needs}
 use native.Mathlib.Omega.{arith}
 use Rattle.record.specs.declared.MotionVector.{MotionVector}
 use Rattle.search.specs.declared.Scored.{Scored}
-use Rattle.search.specs.Places.{distance, listed}
+use Rattle.search.specs.Places.{listed}
 use Rattle.search.specs.Full.{discounted}
 use Rattle.search.specs.Told.{consider, blockOf, copiedSum}
 use Rattle.search.proofs.Listed.{too-near, too-far, is-listed, consider-cost, zero-costs, other-costs}

@@ -2,17 +2,16 @@
 use Prim.Native.Nat.{ℕ, _+_, _-_, _*_, _≤_, _<_}
 use native.Mathlib.Nat.{mul-le-mul-left}
 use native.Mathlib.Omega.{arith}
-use mathlib.Core.List.{List, foldl}
-use mathlib.Core.Path.{_≡_, refl, sym, ap, ap₂, subst, _∙_}
+use mathlib.Core.List.{List}
+use mathlib.Core.Path.{_≡_, refl, sym, ap, subst, _∙_}
 use Rattle.basis.specs.Lists.{rows}
 use Rattle.record.specs.declared.MotionVector.{MotionVector}
 use Rattle.search.specs.declared.Row.{Row}
-use Rattle.search.specs.declared.Scored.{Scored}
 use Rattle.search.specs.Places.{right, listed, rowOf}
 use Rattle.search.specs.Full.{discounted}
 use Rattle.search.specs.Told.{Within, consider, blockOf, copiedSum, Shown, Kept}
+use Rattle.search.proofs.Kept.{pieces-more}
 use Rattle.search.proofs.Moves.{right-within}
-use Rattle.basis.proofs.Lists.{fold-rows}
 use Rattle.search.proofs.Shown.{shown-right}
 use Rattle.search.proofs.rows.row_search.Statement.{statement}
 use Rattle.search.proofs.rows.row_search.Tie as tie
@@ -40,10 +39,6 @@ run r k h b = omega (arith, mul-le-mul-left (r .step) (less (r .count) h))
   where
     less : (n : ℕ) → k < n → k ≤ n
     less n h = omega arith
-
-turn : (f : Scored → MotionVector → Scored) (s b : Scored) (r : Row) (k : ℕ) (d : MotionVector) → b ≡ foldl f s (rows k (placeOf r)) → d ≡ right (r .from) (r .step * k)
-    → foldl f b (listed (r .near) (r .far) d) ≡ foldl f s (rows (k + 1) (placeOf r))
-turn f s b r k d e g = ap₂ (λ (b : Scored) (d : MotionVector). foldl f b (listed (r .near) (r .far) d)) e g ∙ sym (fold-rows f s k (placeOf r))
 
 loop-holds : tie.Need-loop-holds Inv-loop μ-loop
 unfolding rows
@@ -99,7 +94,7 @@ loop-again c =
             c .place-search .ensures .kept p x y
             (subst (λ (d : MotionVector). Shown (s .args .side) p x y d (s .args .patch .now) (s .args .at + r .step * k) (s .args .width) (s .args .side)) (sym (c .before .right .ensures))
             (shown-right (s .args .side) p x y (r .from) (s .args .patch .now) (s .args .at) (s .args .width) (r .step * (r .count - 1) + s .args .side) (r .step * k) (s .args .side) (before-end r (s .args .side) k (l .loop-test .taken)) h))
-            ∙ turn (consider (discounted (s .args .discount) (copiedSum (blockOf (s .args .side) (s .args .source .now) p x y)))) (s .args .best) (l .before .loop .b) r k (c .before .right .result) (l .before .loop .inv .2 .kept p x y h) (c .before .right .ensures);
+            ∙ pieces-more (consider (discounted (s .args .discount) (copiedSum (blockOf (s .args .side) (s .args .source .now) p x y)))) (s .args .best) (l .before .loop .b) (placeOf r) k (l .before .loop .inv .2 .kept p x y h) (ap (listed (r .near) (r .far)) (c .before .right .ensures));
       },
     )
 

@@ -13,7 +13,8 @@ use Rattle.plane.specs.declared.Point.{Point}
 use Rattle.plane.specs.Plane.{planeOf}
 use Rattle.prediction.specs.Luma.{lumaBlock, lumaReply}
 use Rattle.search.specs.Told.{windowSum}
-use Rattle.search.proofs.PredictedSums.{last-row, cornerAt, predicted-done, predicted-sum}
+use Rattle.search.proofs.PredictedSums.{cornerAt, predicted-done, predicted-sum}
+use Rattle.search.proofs.Sides.{last-row}
 use borrow.Author.Needs.{needs}
 use Rattle.search.proofs.sub.predicted_sum.Statement.{statement}
 use Rattle.search.proofs.sub.predicted_sum.Tie as tie

@@ -1,14 +1,13 @@
 -- `search::sub::refine_subpel` meets its contract. Assumes nothing.
-use Prim.Native.Nat.{ℕ, _/_, _≤_}
+use Prim.Native.Nat.{ℕ, _/_}
 use native.Mathlib.Omega.{arith}
 use mathlib.Core.Bool.{true}
 use mathlib.Core.List.{foldl}
-use mathlib.Core.Path.{_≡_, sym, ap, ap₂, _∙_}
+use mathlib.Core.Path.{_≡_, sym, ap, _∙_}
 use Rattle.record.specs.declared.MotionVector.{MotionVector}
 use Rattle.plane.specs.Plane.{planeOf}
 use Rattle.plane.specs.Reference.{vectorInRange}
 use Rattle.prediction.specs.declared.BVopSampleMode.{BVopSampleMode}
-use Rattle.prediction.specs.declared.BVopSampleMode.the-variants.{HalfPel, QuarterPel}
 use Rattle.prediction.specs.Luma.{unitsPerPel, wholeVector}
 use Rattle.search.specs.declared.Scored.{Scored}
 use Rattle.search.specs.Range.{vectorIn}
@@ -20,10 +19,6 @@ use Rattle.search.proofs.Refined.{refine-half, refine-quarter, ring-bes
 use borrow.Author.Needs.{needs}
 use Rattle.search.proofs.sub.refine_subpel.Statement.{statement}
 use Rattle.search.proofs.sub.refine_subpel.Tie as tie
-
-half-step : (m : BVopSampleMode) → unitsPerPel m / 2 ≤ 2
-half-step HalfPel = omega arith
-half-step (QuarterPel bpp) = omega arith
 
 module _ (s : tie.Start) where
   abbrev sumOf : MotionVector → ℕ
@@ -42,17 +37,15 @@ module _ (s : tie.Start) where
   abbrev refinedIn : BVopSampleMode → Scored
   refinedIn m = refined sumOf m (s .args .fcode) (s .args .d)
 
-half-is : (c : tie.After-ring-search) → let s = c .before .before .before .before .before .before in c .ring-search .result ≡ halfIn s (s .args .mode)
+half-is : (c : tie.After-half-ring) → let s = c .before .before .before .before .before in c .half-ring .result ≡ halfIn s (s .args .mode)
 half-is c =
-    let u = c .before in
-    let n = u .before in
+    let n = c .before in
     let b = n .before in
     let s = b .before .before .before in
-    let f = s .args .fcode in
     let v = b .start .result in
-    c .ring-search .ensures
-    ∙ ap (λ (k : ℕ). foldl (consider (sumOf s)) (scored v k) (ring f (u .units-per-pel .result / 2) v)) (n .vector-sum .ensures)
-    ∙ ap₂ (λ (w : MotionVector) (k : ℕ). foldl (consider (sumOf s)) (atCost (sumOf s) w) (ring f (k / 2) w)) (b .start .ensures) (u .units-per-pel .ensures)
+    let around = ring (s .args .fcode) (unitsPerPel (s .args .mode) / 2) in
+    c .half-ring .ensures ∙ ap (λ (k : ℕ). foldl (consider (sumOf s)) (scored v k) (around v)) (n .vector-sum .ensures)
+    ∙ ap (λ (w : MotionVector). foldl (consider (sumOf s)) (atCost (sumOf s) w) (around w)) (b .start .ensures)
 
 start-requires : tie.Need-start-requires
 start-requires c κs = search needs
@@ -63,15 +56,11 @@ vector-sum-requires c κs =
     let a = s .args in
     (s .pre .0, s .pre .1 .mode, ap vectorInRange (c .start .ensures) ∙ in-interpolation (a .fcode) (begun s (a .mode)) (s .pre .1 .range-is) (begun-in s))
 
-units-per-pel-requires : tie.Need-units-per-pel-requires
-units-per-pel-requires c κs = search needs
-
-ring-search-requires : tie.Need-ring-search-requires
-ring-search-requires c κs =
-    let b = c .before .before in
+half-ring-requires : tie.Need-half-ring-requires
+half-ring-requires c κs =
+    let b = c .before in
     let s = b .before .before .before in
-    let a = s .args in
-    (s .pre .0, s .pre .1, rw (c .units-per-pel .ensures) (half-step (a .mode)), ap (vectorIn (a .fcode)) (b .start .ensures) ∙ begun-in s)
+    (s .pre .0, s .pre .1, ap (vectorIn (s .args .fcode)) (b .start .ensures) ∙ begun-in s)
 
 enum-told : tie.Need-enum-told
 enum-told c = search needs
@@ -79,17 +68,17 @@ enum-told c = search needs
 enum-told-2 : tie.Need-enum-told-2
 enum-told-2 c = search needs
 
-ring-search-requires-2 : tie.Need-ring-search-requires-2
-ring-search-requires-2 c κs =
+ring-search-requires : tie.Need-ring-search-requires
+ring-search-requires c κs =
     let h = c .before .before in
-    let s = h .before .before .before .before .before .before in
+    let s = h .before .before .before .before .before in
     let a = s .args in
-    (s .pre .0, s .pre .1, omega arith, ring-best-in (sumOf s) (a .fcode) (unitsPerPel (a .mode) / 2) (begun s (a .mode)) (h .ring-search .result) (half-is h) (begun-in s))
+    (s .pre .0, s .pre .1, omega arith, ring-best-in (sumOf s) (a .fcode) (unitsPerPel (a .mode) / 2) (begun s (a .mode)) (h .half-ring .result) (half-is h) (begun-in s))
 
 returns : tie.Need-returns
 returns c =
     let h = c .before .before in
-    let s = h .before .before .before .before .before .before in
+    let s = h .before .before .before .before .before in
     let e = c .enum-told .given .1 in
     half-is h ∙ ap (halfIn s) e ∙ refine-half (sumOf s) (s .args .fcode) (s .args .d) ∙ ap (refinedIn s) (sym e)
 
@@ -97,9 +86,9 @@ returns-2 : tie.Need-returns-2
 returns-2 c =
     let q = c .before in
     let h = q .before .before in
-    let s = h .before .before .before .before .before .before in
+    let s = h .before .before .before .before .before in
     let g = q .enum-told2 .given in
-    c .ring-search2 .ensures ∙ refine-quarter (sumOf s) (g .0 .0) (s .args .fcode) (s .args .d) (h .ring-search .result) (half-is h ∙ ap (halfIn s) (g .1))
+    c .ring-search .ensures ∙ refine-quarter (sumOf s) (g .0 .0) (s .args .fcode) (s .args .d) (h .half-ring .result) (half-is h ∙ ap (halfIn s) (g .1))
     ∙ ap (refinedIn s) (sym (g .1))
 
 pub refine-subpel-spec : {M : Type 1} → statement M
@@ -108,10 +97,9 @@ refine-subpel-spec =
     (tie.spec
     start-requires
     vector-sum-requires
-    units-per-pel-requires
-    ring-search-requires
+    half-ring-requires
     enum-told
     enum-told-2
-    ring-search-requires-2
+    ring-search-requires
     returns
     returns-2)

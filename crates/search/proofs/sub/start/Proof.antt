@@ -1,26 +1,20 @@
 -- `search::sub::start` meets its contract. Assumes nothing.
 use Prim.Native.Nat.{ℕ, _≤_}
 use native.Mathlib.Omega.{arith}
-use mathlib.Core.Path.{sym, ap, ap₂, _∙_, subst}
+use mathlib.Core.Path.{ap, ap₂, _∙_}
 use lib.IntN.{ℤ, pos, _*ℤ_}
 use mir.Syntax.{w32}
 use mir.Facts.{toZ-ofZ}
 use borrow.Author.Needs.{sfits-of, needs}
-use Rattle.basis.specs.Parts.{above, below}
 use Rattle.basis.proofs.Signed.{of-bits}
-use Rattle.prediction.specs.declared.BVopSampleMode.{BVopSampleMode}
-use Rattle.prediction.specs.declared.BVopSampleMode.the-variants.{HalfPel, QuarterPel}
-use Rattle.prediction.specs.Luma.{unitsPerPel}
 use Rattle.search.specs.Range.{clamped}
+use Rattle.search.proofs.Moves.{read-small}
+use Rattle.search.proofs.Refined.{units-most}
 use Rattle.search.proofs.sub.start.Statement.{statement}
 use Rattle.search.proofs.sub.start.Tie as tie
 
-units : (m : BVopSampleMode) → unitsPerPel m ≤ 4
-units HalfPel = omega arith
-units (QuarterPel bpp) = omega arith
-
 few : (c : tie.After-units-per-pel) → c .units-per-pel .result ≤ 4
-few c = omega (arith, c .units-per-pel .ensures, units (c .before .args .mode))
+few c = omega (arith, c .units-per-pel .ensures, units-most (c .before .args .mode))
 
 units-per-pel-requires : tie.Need-units-per-pel-requires
 units-per-pel-requires c κs = search needs
@@ -28,15 +22,15 @@ units-per-pel-requires c κs = search needs
 scaled-requires : tie.Need-scaled-requires
 scaled-requires c κs =
     let w = c .before .before .pre .0 in
-    let e = of-bits (c .before .before .args .d .x) (c .struct-told .given .0 .1) in
-    (subst (λ (z : ℤ). above z ≤ 4096) (sym e) (w .x-above), subst (λ (z : ℤ). below z ≤ 4096) (sym e) (w .x-below), few (c .before))
+    let v = read-small 4096 4096 (c .before .before .args .d .x) (omega arith) (of-bits (c .before .before .args .d .x) (c .struct-told .given .0 .1)) (w .x-above) (w .x-below) in
+    (v .0, v .1, few (c .before))
 
 scaled-requires-2 : tie.Need-scaled-requires-2
 scaled-requires-2 c κs =
     let u = c .before .before .before in
     let w = u .before .pre .0 in
-    let e = of-bits (u .before .args .d .y) (c .struct-told2 .given .1 .0 .1) in
-    (subst (λ (z : ℤ). above z ≤ 4096) (sym e) (w .y-above), subst (λ (z : ℤ). below z ≤ 4096) (sym e) (w .y-below), few u)
+    let v = read-small 4096 4096 (u .before .args .d .y) (omega arith) (of-bits (u .before .args .d .y) (c .struct-told2 .given .1 .0 .1)) (w .y-above) (w .y-below) in
+    (v .0, v .1, few u)
 
 clamped-requires : tie.Need-clamped-requires
 clamped-requires c κs = search needs

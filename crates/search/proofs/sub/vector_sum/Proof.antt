@@ -1,5 +1,5 @@
 -- `search::sub::vector_sum` meets its contract. Assumes nothing.
-use Rattle.search.proofs.PredictedSums.{area-most}
+use Rattle.search.proofs.Sides.{area-most}
 use borrow.Author.Needs.{needs}
 use Rattle.search.proofs.sub.vector_sum.Statement.{statement}
 use Rattle.search.proofs.sub.vector_sum.Tie as tie
