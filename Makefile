@@ -31,7 +31,7 @@ help:
 	@echo 'make compare DOCS=FOLDER   the library against the original Rust, on random calls'
 	@echo 'make bench DOCS=FOLDER     the same two, timed side by side'
 	@echo 'make machine-code          whether the search sums by the instruction made for it'
-	@echo 'make call                  a C program that calls the library once'
+	@echo 'make call                  a C program that calls the library twice'
 	@echo 'FOLDER has the originals as src/src/half_sample.rs and so on. ARGS="--seed N --valid N'
 	@echo '--refused N" gives compare another seed and other counts.'
 

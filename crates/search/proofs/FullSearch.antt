@@ -15,7 +15,7 @@ use Rattle.search.specs.declared.Scored.{Scored}
 use Rattle.search.specs.Places.{squareOf, lattice}
 use Rattle.search.specs.Sums.{Block}
 use Rattle.search.specs.Full.{near, denseRow, coarse, coarseBest, fullRest, fullList, fullWinner, seedFrom, fourRest, fourList, fourWinner}
-use Rattle.search.specs.Told.{consider, atCost, found, keptRows}
+use Rattle.search.specs.Kept.{consider, atCost, found, keptRows}
 use Rattle.search.proofs.Kept.{search-best, search-more, kept-start, keptRows-best}
 
 module _ (cost : MotionVector → ℕ) (w : ℕ) (b : Block) where

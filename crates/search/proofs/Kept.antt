@@ -12,7 +12,7 @@ use Rattle.basis.specs.Lists.{rows}
 use Rattle.basis.proofs.Lists.{fold-rows}
 use Rattle.record.specs.declared.MotionVector.{MotionVector}
 use Rattle.search.specs.declared.Scored.{Scored}
-use Rattle.search.specs.Told.{consider, atCost, keptRows}
+use Rattle.search.specs.Kept.{consider, atCost, keptRows}
 
 -- a search over a list in pieces, one piece more
 pub pieces-more : (f : Scored → MotionVector → Scored) (s b : Scored) (piece : ℕ → List MotionVector) (j : ℕ) {l : List MotionVector} → b ≡ foldl f s (rows j piece) → l ≡ piece j

@@ -11,7 +11,7 @@ use Rattle.search.specs.declared.Scored.{Scored}
 use Rattle.search.specs.Places.{distance, listed}
 use Rattle.search.specs.Full.{discounted}
 use Rattle.search.specs.Sub.{scored}
-use Rattle.search.specs.Told.{consider}
+use Rattle.search.specs.Kept.{consider}
 
 module _ (near far : ℕ) (d : MotionVector) where
   pub too-near : distance d < near → listed near far d ≡ []

@@ -19,7 +19,8 @@ use Rattle.search.specs.declared.Row.{Row}
 use Rattle.search.specs.Places.{right, down, distance, listed, rowOf, squareOf, lattice, latticeFrom, places}
 use Rattle.search.specs.Sums.{Block}
 use Rattle.search.specs.Full.{near, denseRow, denseRowAt, coarse, coarseBest, fullRest, fullList, fullWinner, seedFrom, fourRest, fourWinner}
-use Rattle.search.specs.Told.{consider, atCost, found, keptRows, Within}
+use Rattle.search.specs.Kept.{consider, atCost, found, keptRows}
+use Rattle.search.specs.Told.{Within}
 use Rattle.search.proofs.FullSearch.{winner-first}
 
 pub zero-within : (n : ℕ) → Within n zeroVector

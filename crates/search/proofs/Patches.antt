@@ -19,7 +19,8 @@ use Rattle.plane.specs.Plane.{Plane, planeOf, sampleAt, copied, copiedBlock}
 use Rattle.plane.specs.Reference.{referenceReply, copyReply}
 use Rattle.plane.proofs.Ready.{copy-done}
 use Rattle.search.specs.Places.{down}
-use Rattle.search.specs.Told.{movedTo, Shown}
+use Rattle.search.specs.Told.{movedTo}
+use Rattle.search.specs.Patch.{Shown}
 use Rattle.search.proofs.Shown.{farther}
 
 -- a copy of a usable reference into an area that fits

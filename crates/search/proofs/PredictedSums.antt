@@ -22,7 +22,8 @@ use Rattle.plane.proofs.Ready.{motion-done}
 use Rattle.prediction.proofs.LumaAt.{luma-at}
 use Rattle.prediction.proofs.Ready.{luma-done}
 use Rattle.search.specs.Sums.{absDiff, differences, vectorSum}
-use Rattle.search.specs.Told.{Ready, windowSum, blockOf}
+use Rattle.search.specs.Told.{Ready, blockOf}
+use Rattle.search.specs.Patch.{windowSum}
 
 -- where a block that is searched for stands
 abbrev pub cornerAt : ℕ → ℕ → Point

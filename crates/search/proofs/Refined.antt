@@ -15,7 +15,7 @@ use Rattle.prediction.specs.Luma.{unitsPerPel, wholeVector}
 use Rattle.search.specs.declared.Scored.{Scored}
 use Rattle.search.specs.Range.{vectorIn}
 use Rattle.search.specs.Sub.{neighbour, ring, ringStep, start, subRest, subList, refined}
-use Rattle.search.specs.Told.{consider, atCost}
+use Rattle.search.specs.Kept.{consider, atCost}
 use Rattle.search.proofs.InRange.{clamped-in}
 use Rattle.search.proofs.Kept.{search-best, search-more}
 

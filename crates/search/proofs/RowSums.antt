@@ -10,7 +10,7 @@ use Rattle.basis.proofs.Bounds.{row-before}
 use Rattle.basis.proofs.Slices.{part-at}
 use Rattle.basis.proofs.Sums.{sumTo-cong, sumTo-pairs}
 use Rattle.search.specs.Sums.{absDiff}
-use Rattle.search.specs.Told.{rowSum, windowSum}
+use Rattle.search.specs.Patch.{rowSum, windowSum}
 
 -- row j lies within the source and within the window
 pub row-fits : (side j at stride : ℕ) {bytes places : ℕ} → j < side → bytes ≡ side * side → at + (side - 1) * stride + side ≤ places

@@ -10,7 +10,8 @@ use Rattle.record.specs.declared.MotionVector.{MotionVector}
 use Rattle.plane.specs.Plane.{Plane, sampleAt}
 use Rattle.search.specs.Sums.{absDiff, differences}
 use Rattle.search.specs.Places.{right}
-use Rattle.search.specs.Told.{windowSum, blockOf, copiedSum, Shown}
+use Rattle.search.specs.Told.{blockOf, copiedSum}
+use Rattle.search.specs.Patch.{windowSum, Shown}
 
 module _ (side : ℕ) (p : Plane) (x y : ℕ) (d : MotionVector) (patch : List ℕ) (at width : ℕ) where
   -- the sum on the patch

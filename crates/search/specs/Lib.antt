@@ -5,4 +5,6 @@ pub mod Full
 pub mod Sub
 pub mod Estimate
 pub mod Demand
+pub mod Kept
 pub mod Told
+pub mod Patch

@@ -2,7 +2,7 @@
 use Prim.Native.Nat.{ℕ, _+_, _-_, _*_, _/_, max, min}
 use mathlib.Core.Bool.{cond}
 use mathlib.Core.List.{List, [], _∷_}
-use lib.IntN.{ℤ, pos, negℤ, natAbs, _+ℤ_}
+use lib.IntN.{pos, negℤ, natAbs, _+ℤ_}
 use Rattle.basis.specs.Lists.{rows}
 use Rattle.refusal.specs.Test.{between}
 use Rattle.record.specs.declared.MotionVector.{MotionVector}
@@ -35,7 +35,7 @@ squareOf from n far = rows n (λ j. rowOf (record { from = down from j; step = 1
 abbrev pub back : ℕ → ℕ → ℕ
 back w m = min w (m + 15)
 
--- how many of its places are every fourth
+-- every fourth of its places, which go up to w and to size - 1 - m: how many there are
 abbrev pub places : ℕ → ℕ → ℕ → ℕ
 places w m size = (min (back w m + w + 1) (back w m + size - m) + 3) / 4
 

@@ -7,7 +7,9 @@ ghost use lib.ListN.{length};
 ghost use Rattle.basis.specs.Parts.{above, below};
 ghost use Rattle.plane.specs.Reference.{isSide};
 ghost use Rattle.search.specs.Places.{right, down, distance, listed, rowOf};
-ghost use Rattle.search.specs.Told.{Within, consider, Rowed, Kept};
+ghost use Rattle.search.specs.Kept.{consider};
+ghost use Rattle.search.specs.Told.{Within};
+ghost use Rattle.search.specs.Patch.{RowReady, KeptOn};
 use crate::Row;
 use crate::Scored;
 use crate::sums;
@@ -89,7 +91,7 @@ fn place_search(
     best: Scored,
 ) -> Scored
     requires { ⌜ (isSide side ≡ true) × (length (now source) ≡ side * side) × (at + (side - 1) * width + side ≤ length (now patch)) × Within 8192 d ⌝ }
-    ensures { λ r. ⌜ Kept side (now (source .entry)) (now (patch .entry)) at width side d discount (listed (row .near) (row .far) d) best r ⌝ }
+    ensures { λ r. ⌜ KeptOn side (now (source .entry)) (now (patch .entry)) at width side d discount (listed (row .near) (row .far) d) best r ⌝ }
 {
     let far = distance(d);
     if far < row.near {
@@ -116,8 +118,8 @@ pub fn row_search(
     discount: u32,
     best: Scored,
 ) -> Scored
-    requires { ⌜ Rowed side (now source) (now patch) at width row ⌝ }
-    ensures { λ r. ⌜ Kept side (now (source .entry)) (now (patch .entry)) at width (row .step * (row .count - 1) + side) (row .from) discount (rowOf row) best r ⌝ }
+    requires { ⌜ RowReady side (now source) (now patch) at width row ⌝ }
+    ensures { λ r. ⌜ KeptOn side (now (source .entry)) (now (patch .entry)) at width (row .step * (row .count - 1) + side) (row .from) discount (rowOf row) best r ⌝ }
 {
     let mut b = best;
     for k in 0..row.count {

@@ -7,7 +7,7 @@ ghost use lib.ListN.{length, getD};
 ghost use Rattle.basis.specs.Sums.{sumTo};
 ghost use Rattle.plane.specs.Reference.{isSide};
 ghost use Rattle.search.specs.Sums.{absDiff};
-ghost use Rattle.search.specs.Told.{rowSum, windowSum};
+ghost use Rattle.search.specs.Patch.{rowSum, windowSum};
 
 fn difference(a: u8, b: u8) -> u32
     ensures { λ r. ⌜ (r ≡ absDiff a b) × (r ≤ 255) ⌝ }

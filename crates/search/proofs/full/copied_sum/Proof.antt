@@ -7,7 +7,7 @@ use lib.ListN.{length}
 use borrow.Author.Needs.{needs}
 use Rattle.basis.proofs.Lists.{length-raster}
 use Rattle.plane.specs.Plane.{planeOf, copied, copiedBlock}
-use Rattle.search.specs.Told.{windowSum}
+use Rattle.search.specs.Patch.{windowSum}
 use Rattle.search.proofs.Patches.{copy-is}
 use Rattle.search.proofs.Sides.{last-row}
 use Rattle.search.proofs.full.copied_sum.Statement.{statement}

@@ -13,7 +13,8 @@ use Rattle.search.specs.declared.Row.{Row}
 use Rattle.search.specs.declared.Scored.{Scored}
 use Rattle.search.specs.Places.{rowOf}
 use Rattle.search.specs.Full.{discounted, denseRowAt, denseRow}
-use Rattle.search.specs.Told.{Within, consider, keptRows, blockOf, copiedSum}
+use Rattle.search.specs.Kept.{consider, keptRows}
+use Rattle.search.specs.Told.{Within, blockOf, copiedSum}
 use Rattle.search.proofs.Kept.{keptRows-more}
 use Rattle.search.proofs.Moves.{down-within, lowered-within, read-small}
 use Rattle.search.proofs.Near.{rows-within}

@@ -14,7 +14,8 @@ use Rattle.prediction.specs.Luma.{unitsPerPel}
 use Rattle.search.specs.declared.Scored.{Scored}
 use Rattle.search.specs.Places.{squareOf}
 use Rattle.search.specs.Full.{discounted, seedFrom}
-use Rattle.search.specs.Told.{Within, atCost, consider, blockOf, copiedSum}
+use Rattle.search.specs.Kept.{atCost, consider}
+use Rattle.search.specs.Told.{Within, blockOf, copiedSum}
 use Rattle.search.proofs.FullSearch.{four-is}
 use Rattle.search.proofs.Moves.{lowered-within, quotient-small}
 use Rattle.search.proofs.WholeSums.{no-discount}

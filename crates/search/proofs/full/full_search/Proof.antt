@@ -9,7 +9,8 @@ use Rattle.search.specs.declared.Scored.{Scored}
 use Rattle.search.specs.Sums.{Block}
 use Rattle.search.specs.Places.{lattice}
 use Rattle.search.specs.Full.{discounted, near}
-use Rattle.search.specs.Told.{Within, found, consider, blockOf, copiedSum}
+use Rattle.search.specs.Kept.{found, consider}
+use Rattle.search.specs.Told.{Within, blockOf, copiedSum}
 use Rattle.search.proofs.FullSearch.{full-small, full-dense, full-near}
 use Rattle.search.proofs.Near.{coarse-within}
 use Rattle.search.proofs.full.full_search.Statement.{statement}

@@ -14,7 +14,8 @@ use Rattle.plane.proofs.Ready.{usable}
 use Rattle.search.specs.declared.Row.{Row}
 use Rattle.search.specs.Places.{down, rowOf, back, places, latticeFrom, latticeRowAt, lattice}
 use Rattle.search.specs.Full.{discounted}
-use Rattle.search.specs.Told.{Within, consider, blockOf, copiedSum}
+use Rattle.search.specs.Kept.{consider}
+use Rattle.search.specs.Told.{Within, blockOf, copiedSum}
 use Rattle.search.proofs.Kept.{pieces-more}
 use Rattle.search.proofs.Moves.{down-within}
 use Rattle.search.proofs.full.lattice_search.Statement.{statement}

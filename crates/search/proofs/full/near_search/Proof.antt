@@ -5,7 +5,8 @@ use borrow.Author.Needs.{needs}
 use Rattle.plane.specs.Plane.{planeOf}
 use Rattle.search.specs.declared.Scored.{Scored}
 use Rattle.search.specs.Full.{discounted, near}
-use Rattle.search.specs.Told.{consider, blockOf, copiedSum}
+use Rattle.search.specs.Kept.{consider}
+use Rattle.search.specs.Told.{blockOf, copiedSum}
 use Rattle.search.proofs.full.near_search.Statement.{statement}
 use Rattle.search.proofs.full.near_search.Tie as tie
 

@@ -14,7 +14,9 @@ use Rattle.plane.specs.Plane.{Plane, planeOf, copied, copiedBlock}
 use Rattle.search.specs.declared.Scored.{Scored}
 use Rattle.search.specs.Places.{down, rowOf, squareOf}
 use Rattle.search.specs.Full.{discounted}
-use Rattle.search.specs.Told.{Within, consider, blockOf, copiedSum, movedTo, Shown}
+use Rattle.search.specs.Kept.{consider}
+use Rattle.search.specs.Told.{Within, blockOf, copiedSum, movedTo}
+use Rattle.search.specs.Patch.{Shown}
 use Rattle.search.proofs.InRange.{wider}
 use Rattle.search.proofs.Kept.{pieces-more}
 use Rattle.search.proofs.Moves.{down-within}

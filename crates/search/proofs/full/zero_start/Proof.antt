@@ -7,7 +7,8 @@ use Rattle.record.specs.Zero.{zeroVector}
 use Rattle.plane.specs.declared.Point.{Point}
 use Rattle.plane.specs.Plane.{planeOf, copiedBlock}
 use Rattle.search.specs.Sub.{scored}
-use Rattle.search.specs.Told.{Within, windowSum, movedTo, blockOf, copiedSum}
+use Rattle.search.specs.Told.{Within, movedTo, blockOf, copiedSum}
+use Rattle.search.specs.Patch.{windowSum}
 use Rattle.search.proofs.Near.{zero-within}
 use Rattle.search.proofs.Patches.{strip-shown}
 use Rattle.search.proofs.Shown.{shown-sum}

@@ -1,6 +1,6 @@
 -- `search::rows::consider` meets its contract. Assumes nothing.
 use borrow.Author.Tests.{lt-ltb, le-ltb}
-use Rattle.search.specs.Told.{consider}
+use Rattle.search.specs.Kept.{consider}
 use Rattle.search.proofs.rows.consider.Statement.{statement}
 use Rattle.search.proofs.rows.consider.Tie as tie
 

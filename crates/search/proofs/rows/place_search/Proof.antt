@@ -8,7 +8,8 @@ use Rattle.record.specs.declared.MotionVector.{MotionVector}
 use Rattle.search.specs.declared.Scored.{Scored}
 use Rattle.search.specs.Places.{listed}
 use Rattle.search.specs.Full.{discounted}
-use Rattle.search.specs.Told.{consider, blockOf, copiedSum}
+use Rattle.search.specs.Kept.{consider}
+use Rattle.search.specs.Told.{blockOf, copiedSum}
 use Rattle.search.proofs.Listed.{too-near, too-far, is-listed, consider-cost, zero-costs, other-costs}
 use Rattle.search.proofs.Shown.{shown-sum}
 use Rattle.search.proofs.rows.place_search.Statement.{statement}

@@ -9,7 +9,9 @@ use Rattle.record.specs.declared.MotionVector.{MotionVector}
 use Rattle.search.specs.declared.Row.{Row}
 use Rattle.search.specs.Places.{right, listed, rowOf}
 use Rattle.search.specs.Full.{discounted}
-use Rattle.search.specs.Told.{Within, consider, blockOf, copiedSum, Shown, Kept}
+use Rattle.search.specs.Kept.{consider}
+use Rattle.search.specs.Told.{Within, blockOf, copiedSum}
+use Rattle.search.specs.Patch.{Shown, KeptOn}
 use Rattle.search.proofs.Kept.{pieces-more}
 use Rattle.search.proofs.Moves.{right-within}
 use Rattle.search.proofs.Shown.{shown-right}
@@ -22,7 +24,7 @@ placeOf r k = listed (r .near) (r .far) (right (r .from) (r .step * k))
 
 abbrev Inv-loop : tie.InvT-loop
 Inv-loop source side patch at width row discount b₀ k₀ k-end b k =
-    (k ≤ k-end) × (k-end ≡ row .count) × Kept side source patch at width (row .step * (row .count - 1) + side) (row .from) discount (rows k (placeOf row)) b₀ b
+    (k ≤ k-end) × (k-end ≡ row .count) × KeptOn side source patch at width (row .step * (row .count - 1) + side) (row .from) discount (rows k (placeOf row)) b₀ b
 
 abbrev μ-loop : tie.MeasureT-loop
 μ-loop source side patch at width row discount b₀ k₀ k-end b k = k-end - k
@@ -102,7 +104,7 @@ returns : tie.Need-returns Inv-loop μ-loop
 unfolding rowOf
 returns c =
     let s = c .before .before .before .before in
-    subst (λ (n : ℕ). Kept (s .args .side) (s .args .source .now) (s .args .patch .now) (s .args .at) (s .args .width) (s .args .row .step * (s .args .row .count - 1) + s .args .side) (s .args .row .from) (s .args .discount) (rows n (placeOf (s .args .row))) (s .args .best) (c .before .loop .b)) (omega (arith, c .loop-test .left, c .before .loop .inv .0)) (c .before .loop .inv .2)
+    subst (λ (n : ℕ). KeptOn (s .args .side) (s .args .source .now) (s .args .patch .now) (s .args .at) (s .args .width) (s .args .row .step * (s .args .row .count - 1) + s .args .side) (s .args .row .from) (s .args .discount) (rows n (placeOf (s .args .row))) (s .args .best) (c .before .loop .b)) (omega (arith, c .loop-test .left, c .before .loop .inv .0)) (c .before .loop .inv .2)
 
 pub row-search-spec : {M : Type 1} → statement M
 row-search-spec =

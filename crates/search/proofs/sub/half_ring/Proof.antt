@@ -6,7 +6,8 @@ use mathlib.Core.Path.{ap, _∙_}
 use Rattle.plane.specs.Plane.{planeOf}
 use Rattle.search.specs.Sums.{vectorSum}
 use Rattle.search.specs.Sub.{ring}
-use Rattle.search.specs.Told.{blockOf, consider}
+use Rattle.search.specs.Kept.{consider}
+use Rattle.search.specs.Told.{blockOf}
 use Rattle.search.proofs.Refined.{units-most}
 use borrow.Author.Needs.{needs}
 use Rattle.search.proofs.sub.half_ring.Statement.{statement}

@@ -12,7 +12,7 @@ use Rattle.refusal.specs.Reply.{done}
 use Rattle.plane.specs.declared.Point.{Point}
 use Rattle.plane.specs.Plane.{planeOf}
 use Rattle.prediction.specs.Luma.{lumaBlock, lumaReply}
-use Rattle.search.specs.Told.{windowSum}
+use Rattle.search.specs.Patch.{windowSum}
 use Rattle.search.proofs.PredictedSums.{cornerAt, predicted-done, predicted-sum}
 use Rattle.search.proofs.Sides.{last-row}
 use borrow.Author.Needs.{needs}

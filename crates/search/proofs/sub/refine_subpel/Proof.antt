@@ -13,7 +13,8 @@ use Rattle.search.specs.declared.Scored.{Scored}
 use Rattle.search.specs.Range.{vectorIn}
 use Rattle.search.specs.Sums.{vectorSum}
 use Rattle.search.specs.Sub.{scored, ring, start, refined}
-use Rattle.search.specs.Told.{blockOf, consider, atCost}
+use Rattle.search.specs.Kept.{consider, atCost}
+use Rattle.search.specs.Told.{blockOf}
 use Rattle.search.proofs.InRange.{clamped-in, in-interpolation}
 use Rattle.search.proofs.Refined.{refine-half, refine-quarter, ring-best-in}
 use borrow.Author.Needs.{needs}

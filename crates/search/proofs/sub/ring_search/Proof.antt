@@ -8,7 +8,8 @@ use Rattle.record.specs.declared.MotionVector.{MotionVector}
 use Rattle.plane.specs.Plane.{planeOf}
 use Rattle.search.specs.Sums.{vectorSum}
 use Rattle.search.specs.Sub.{ringAt, ring}
-use Rattle.search.specs.Told.{blockOf, consider}
+use Rattle.search.specs.Kept.{consider}
+use Rattle.search.specs.Told.{blockOf}
 use Rattle.search.proofs.Kept.{pieces-more}
 use borrow.Author.Needs.{needs}
 use Rattle.search.proofs.sub.ring_search.Statement.{statement}
