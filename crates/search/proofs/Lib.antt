@@ -5,6 +5,7 @@ pub mod FullSearch
 pub mod InRange
 pub mod Judge
 pub mod Kept
+pub mod Lattice
 pub mod Listed
 pub mod Moves
 pub mod Near

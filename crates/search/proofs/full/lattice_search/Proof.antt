@@ -1,23 +1,21 @@
 -- `search::full::lattice_search` meets its contract. Assumes nothing.
-use Prim.Native.Nat.{ℕ, _+_, _-_, _*_, _≤_, _<_, min}
+use Prim.Native.Nat.{ℕ, _+_, _-_, _*_, _≤_, _<_}
 use native.Mathlib.Omega.{arith}
 use mathlib.Core.List.{List, foldl}
 use mathlib.Core.Path.{_≡_, refl, sym, ap, ap₂, _∙_, subst}
-use lib.IntN.{pos}
 use lib.ListN.{length, length-take}
 use Rattle.basis.specs.Lists.{rows}
 use Rattle.basis.proofs.Slices.{put-length}
-use Rattle.basis.proofs.Parts.{above-neg, below-neg}
 use Rattle.record.specs.declared.MotionVector.{MotionVector}
 use Rattle.plane.specs.Plane.{planeOf}
 use Rattle.plane.proofs.Ready.{usable}
 use Rattle.search.specs.declared.Row.{Row}
-use Rattle.search.specs.Places.{down, rowOf, back, places, latticeFrom, latticeRowAt, lattice}
+use Rattle.search.specs.Places.{rowOf, places, latticeRowAt, lattice}
 use Rattle.search.specs.Full.{discounted}
 use Rattle.search.specs.Kept.{consider}
 use Rattle.search.specs.Told.{Within, blockOf, copiedSum}
 use Rattle.search.proofs.Kept.{pieces-more}
-use Rattle.search.proofs.Moves.{down-within}
+use Rattle.search.proofs.Lattice.{places-most, first-within, row-within, steps-most, strip-room, strip-length}
 use Rattle.search.proofs.full.lattice_search.Statement.{statement}
 use Rattle.search.proofs.full.lattice_search.Tie as tie
 
@@ -33,26 +31,6 @@ Inv-loop source reference geometry x y w strip₀ from count lines size b₀ j�
 abbrev μ-loop : tie.MeasureT-loop
 μ-loop source reference geometry x y w strip₀ from count lines size b₀ j₀ strip b j = lines - j
 
--- there are at most 512 places, and the first is inside the window
-few : (w m size n : ℕ) → w ≤ 1023 → n ≡ places w m size → n ≤ 512
-few w m size n h e = omega (arith, e)
-
-first-within : (w mx my : ℕ) → w ≤ 1023 → Within 1023 (latticeFrom w mx my)
-first-within w mx my h =
-    record {
-      x-above = omega (arith, above-neg (pos (back w mx)));
-      x-below = omega (arith, below-neg (pos (back w mx)));
-      y-above = omega (arith, above-neg (pos (back w my)));
-      y-below = omega (arith, below-neg (pos (back w my)));
-    }
-
--- a strip has room
-fit : (n m : ℕ) → n ≤ 512 → m ≡ 33024 → (16 + 4 * n) * 16 ≤ m
-fit n m h e = omega arith
-
-strip-is : (n m : ℕ) → n ≤ 512 → m ≡ 33024 → min ((16 + 4 * n) * 16 - 0) m ≡ (16 + 4 * n) * 16
-strip-is n m h e = omega arith
-
 less-all : (n : ℕ) → 0 ≤ n
 less-all n = omega arith
 
@@ -62,12 +40,12 @@ start c = c .before .before .before .before .before .before .before
 columns : (c : tie.In-loop Inv-loop μ-loop) → c .before .before .before .places .result ≤ 512
 columns c =
     let s = start c in
-    few (s .args .w) (s .args .x) (s .args .geometry .width) _ (s .pre .1) (c .before .before .before .places .ensures)
+    places-most (s .args .w) (s .args .x) (s .args .geometry .width) _ (s .pre .1) (c .before .before .before .places .ensures)
 
 lines : (c : tie.In-loop Inv-loop μ-loop) → c .before .before .places2 .result ≤ 512
 lines c =
     let s = start c in
-    few (s .args .w) (s .args .y) (s .args .geometry .height) _ (s .pre .1) (c .before .before .places2 .ensures)
+    places-most (s .args .w) (s .args .y) (s .args .geometry .height) _ (s .pre .1) (c .before .before .places2 .ensures)
 
 lattice-from-requires : tie.Need-lattice-from-requires Inv-loop μ-loop
 lattice-from-requires c κs =
@@ -87,7 +65,7 @@ places-requires-2 c κs =
 few-columns : (c : tie.After-places2 Inv-loop μ-loop) → c .before .places .result ≤ 512
 few-columns c =
     let s = c .before .before .before .before .before in
-    few (s .args .w) (s .args .x) (s .args .geometry .width) _ (s .pre .1) (c .before .places .ensures)
+    places-most (s .args .w) (s .args .x) (s .args .geometry .width) _ (s .pre .1) (c .before .places .ensures)
 
 mul-size : tie.Need-mul-size Inv-loop μ-loop
 mul-size c = record { fits = omega (arith, few-columns c) }
@@ -110,15 +88,6 @@ from-within c =
 lattice-row-requires : tie.Need-lattice-row-requires Inv-loop μ-loop
 lattice-row-requires c κs = (from-within c, omega (arith, lines c, c .loop-test .taken))
 
-run : (n : ℕ) → n ≤ 512 → 4 * n ≤ 4096
-run n h = omega arith
-
-moved : (c : tie.In-loop Inv-loop μ-loop) → Within 4096 (down (c .before .before .before .before .lattice-from .result) (4 * c .before .loop .j))
-moved c = down-within 1023 4096 _ (4 * c .before .loop .j) (far (c .before .loop .j) _ (c .loop-test .taken) (lines c)) (from-within c)
-  where
-    far : (j n : ℕ) → j < n → n ≤ 512 → 1023 + 4 * j ≤ 4096
-    far j n h k = omega arith
-
 sub-strip-search : tie.Need-sub-strip-search Inv-loop μ-loop
 sub-strip-search c = less-all _
 
@@ -128,7 +97,7 @@ part-strip-start c = less-all _
 part-strip-end : tie.Need-part-strip-end Inv-loop μ-loop
 part-strip-end c =
     let l = c .before in
-    fit _ _ (columns l) (l .before .loop .inv .1)
+    strip-room _ _ (columns l) (l .before .loop .inv .1)
 
 strip-search-requires : tie.Need-strip-search-requires Inv-loop μ-loop
 strip-search-requires c κs =
@@ -137,17 +106,17 @@ strip-search-requires c κs =
     let s = start l in
     let e = sym (k .lattice-row .ensures) in (
       s .pre .0,
-      subst (λ (r : Row). Within 4096 (r .from)) e (moved l),
-      subst (λ (r : Row). r .step * r .count ≤ 4096) e (run _ (columns l)),
+      subst (λ (r : Row). Within 4096 (r .from)) e (row-within _ (l .before .loop .j) _ (l .loop-test .taken) (lines l) (from-within l)),
+      subst (λ (r : Row). r .step * r .count ≤ 4096) e (steps-most _ (columns l)),
       subst (λ (r : Row). r .far ≤ 1023) e (s .pre .1),
-      simp (length-take) (strip-is _ _ (columns l) (l .before .loop .inv .1)) ∙ ap (λ (r : Row). (16 + r .step * r .count) * 16) e,
+      simp (length-take) (strip-length _ _ (columns l) (l .before .loop .inv .1)) ∙ ap (λ (r : Row). (16 + r .step * r .count) * 16) e,
     )
 
 lent : (k : tie.After-strip-search Inv-loop μ-loop) → 0 + length (k .strip-search .last .1 .1 .1 .1 .1 .1 .0) ≡ (16 + 4 * k .before .before .before .before .before .before .places .result) * 16
 lent k =
     let l = k .before .before .before in
     let n = (16 + 4 * l .before .before .before .places .result) * 16 in
-    none (length (k .strip-search .last .1 .1 .1 .1 .1 .1 .0)) ∙ k .strip-search .kept .1 .1 .1 .1 .1 .1 .0 ∙ length-take (n - 0) (l .before .loop .strip) ∙ strip-is _ _ (columns l) (l .before .loop .inv .1)
+    none (length (k .strip-search .last .1 .1 .1 .1 .1 .1 .0)) ∙ k .strip-search .kept .1 .1 .1 .1 .1 .1 .0 ∙ length-take (n - 0) (l .before .loop .strip) ∙ strip-length _ _ (columns l) (l .before .loop .inv .1)
   where
     none : (n : ℕ) → 0 + n ≡ n
     none n = omega arith
@@ -170,7 +139,7 @@ loop-again c =
     let l = k .before .before .before in
     let s = start l in (
       omega (arith, l .loop-test .taken),
-      put-length (l .before .loop .strip) (k .strip-search .last .1 .1 .1 .1 .1 .1 .0) 0 ((16 + 4 * l .before .before .before .places .result) * 16) (lent k) (fit _ _ (columns l) (l .before .loop .inv .1)) ∙ l .before .loop .inv .1,
+      put-length (l .before .loop .strip) (k .strip-search .last .1 .1 .1 .1 .1 .1 .0) 0 ((16 + 4 * l .before .before .before .places .result) * 16) (lent k) (strip-room _ _ (columns l) (l .before .loop .inv .1)) ∙ l .before .loop .inv .1,
       k .strip-search .ensures
           ∙ pieces-more (consider (discounted 128 (copiedSum (blockOf 16 (s .args .source .now) (planeOf (s .args .reference .now) (s .args .geometry)) (s .args .x) (s .args .y))))) (s .args .best) (l .before .loop .b) (lineOf (l .before .before .before .before .lattice-from .result) (l .before .before .before .places .result) (s .args .w)) (l .before .loop .j) (l .before .loop .inv .2) (ap rowOf (k .before .before .lattice-row .ensures)),
     )
