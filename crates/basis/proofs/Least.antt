@@ -2,7 +2,7 @@
 -- Assumes nothing.
 use mathlib.Core.Path.{_≡_, refl, sym, ap, _∙_}
 use mathlib.Core.Bool.{Bool, true, false, cond}
-use mathlib.Core.List.{List, [], _∷_, _++_, foldl, foldl-append}
+use mathlib.Core.List.{List, [], _∷_, foldl}
 use Prim.Native.Nat.{ℕ, zero, suc, _≤_, _<_}
 use native.Mathlib.Omega.{arith}
 use borrow.Author.Tests.{ltb-true, ltb-false}
@@ -76,11 +76,6 @@ module _ {A : Type 0} (cost : A → ℕ) (first : A) where
   pub best-first : (l : List A) → FirstLeast cost (first ∷ l) (best cost first l)
   unfolding best
   best-first l = first-of-least cost l first
-
-  -- a search that goes on
-  pub best-append : (l m : List A) → best cost first (l ++ m) ≡ foldl (better cost) (best cost first l) m
-  unfolding best
-  best-append l m = foldl-append (better cost) first l m
 
 -- an index inside a list reads no default
 getD-any : {A : Type 0} (l : List A) (i : ℕ) (a b : A) → i < length l → getD l i a ≡ getD l i b

@@ -4,7 +4,7 @@
 use Prim.Native.Nat.{ℕ, zero, suc, _+_, _-_, _<_, _≤_, _^_}
 use native.Mathlib.Omega.{arith}
 use mathlib.Core.Bool.{Bool, true, false}
-use mathlib.Core.Path.{_≡_, sym, ap, ap₂, _∙_, subst}
+use mathlib.Core.Path.{_≡_, refl, sym, ap, ap₂, _∙_, subst}
 use lib.Dec.{T, ltb}
 use lib.IntN.{ℤ, pos, negsuc, natAbs, negℤ, _+ℤ_, _-ℤ_, +ℤ-idl}
 use lib.Signed.{ltZ, leZ, nonNeg, mag}
@@ -26,6 +26,14 @@ lt-true x y e = lt-parts x y (yes e)
 
 pub le-true : (x y : ℤ) → leZ x y ≡ true → above x + below y ≤ above y + below x
 le-true x y e = le-parts x y (yes e)
+
+-- and back
+pub le-is : (x y : ℤ) → above x + below y ≤ above y + below x → leZ x y ≡ true
+le-is x y h = holds (leZ x y) (parts-le x y h)
+  where
+    holds : (t : Bool) → T t → t ≡ true
+    holds true h = refl
+    holds false h = absurd h
 
 not-lt : (a b : ℕ) → (a < b → ⊥) → b ≤ a
 not-lt a b h = omega (arith, h)

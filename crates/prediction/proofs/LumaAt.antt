@@ -1,8 +1,8 @@
 -- A predicted block, read sample by sample. Assumes nothing.
 use Prim.Native.Nat.{ℕ, _+_, _*_, _%_, _<_}
 use mathlib.Core.Path.{_≡_}
-use lib.ListN.{length, getD}
-use Rattle.basis.proofs.Lists.{getD-raster, length-raster}
+use lib.ListN.{getD}
+use Rattle.basis.proofs.Lists.{getD-raster}
 use Rattle.record.specs.declared.MotionVector.{MotionVector}
 use Rattle.plane.specs.declared.Point.{Point}
 use Rattle.plane.specs.Plane.{Plane}
@@ -13,7 +13,3 @@ module _ (m : BVopSampleMode) (p : Plane) (v : MotionVector) (o : Point) (w h ro
   pub luma-at : (i j : ℕ) → i < w → j < h → getD (lumaBlock m p v o w h rounding) (j * w + i) 0 ≡ lumaSample m p v o w h (rounding % 2) i j
   unfolding lumaBlock
   luma-at i j hi hj = getD-raster w h (lumaSample m p v o w h (rounding % 2)) i j 0 hi hj
-
-  pub luma-length : length (lumaBlock m p v o w h rounding) ≡ h * w
-  unfolding lumaBlock
-  luma-length = length-raster w h (lumaSample m p v o w h (rounding % 2))

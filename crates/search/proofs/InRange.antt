@@ -3,13 +3,12 @@ use Prim.Native.Nat.{ℕ, zero, suc, _+_, _-_, _^_, _≤_, _<_}
 use native.Mathlib.Omega.{arith}
 use mathlib.Core.Bool.{Bool, true, false, cond}
 use mathlib.Core.Path.{_≡_, refl}
-use lib.Dec.{T}
 use lib.IntN.{ℤ, pos, negsuc}
-use lib.Signed.{ltZ, leZ}
+use lib.Signed.{ltZ}
 use Rattle.basis.specs.Parts.{above, below}
 use Rattle.basis.proofs.Case.{both}
-use Rattle.basis.proofs.Parts.{sides, above-neg, below-neg, parts-le}
-use Rattle.basis.proofs.Signed.{lt-false}
+use Rattle.basis.proofs.Parts.{sides, above-neg, below-neg}
+use Rattle.basis.proofs.Signed.{le-is, lt-false}
 use Rattle.refusal.specs.Test.{between, inRange}
 use Rattle.refusal.proofs.Tests.{and-left, and-right, between-high, range-low, range-high}
 use Rattle.record.specs.declared.MotionVector.{MotionVector}
@@ -69,13 +68,6 @@ high-above fcode = refl
 high-below : (fcode : ℕ) → below (high fcode) ≡ 0
 unfolding high
 high-below fcode = refl
-
-holds : (t : Bool) → T t → t ≡ true
-holds true h = refl
-holds false h = absurd h
-
-le-is : (x y : ℤ) → above x + below y ≤ above y + below x → leZ x y ≡ true
-le-is x y h = holds (leZ x y) (parts-le x y h)
 
 module _ (least most : ℤ) (ordered : above least + below most ≤ above most + below least) where
   -- a clamped number lies between the ends

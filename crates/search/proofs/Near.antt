@@ -16,7 +16,7 @@ use Rattle.record.specs.Zero.{zeroVector}
 use Rattle.prediction.specs.declared.BVopSampleMode.{BVopSampleMode}
 use Rattle.search.specs.declared.Scored.{Scored}
 use Rattle.search.specs.declared.Row.{Row}
-use Rattle.search.specs.Places.{right, down, distance, listed, rowOf, squareOf, lattice, latticeFrom, places}
+use Rattle.search.specs.Places.{right, down, distance, listed, rowOf, squareOf, lattice, latticeFrom, latticeRowAt, places}
 use Rattle.search.specs.Sums.{Block}
 use Rattle.search.specs.Full.{near, denseRow, denseRowAt, coarse, coarseBest, fullRest, fullList, fullWinner, seedFrom, fourRest, fourWinner}
 use Rattle.search.specs.Kept.{consider, atCost, found, keptRows}
@@ -58,7 +58,7 @@ pub lattice-within : (n w mx my width height : ℕ) → w ≤ n → All (Within 
 unfolding lattice
 lattice-within n w mx my width height h =
     all-rows (Within n) _ (places w my height)
-    (λ j p. row-within n (record { from = down (latticeFrom w mx my) (4 * j); step = 4; count = places w mx width; near = 9; far = w }) h)
+    (λ j p. row-within n (latticeRowAt w (latticeFrom w mx my) (places w mx width) j) h)
 
 pub near-within : (n : ℕ) → 8 ≤ n → All (Within n) near
 near-within n h = square-within n _ 17 8 h

@@ -11,7 +11,6 @@ use Rattle.basis.specs.Sums.{sumTo}
 use Rattle.basis.proofs.Lists.{getD-raster}
 use Rattle.basis.proofs.Sums.{sumTo-cong}
 use Rattle.record.specs.declared.MotionVector.{MotionVector}
-use Rattle.record.specs.Zero.{zeroVector}
 use Rattle.plane.specs.Plane.{Plane, copied}
 use Rattle.prediction.specs.declared.BVopSampleMode.{BVopSampleMode}
 use Rattle.prediction.specs.Luma.{wholeVector, lumaSample}
@@ -50,10 +49,6 @@ no-discount sum = fun-ext (λ d. at d (eqb (distance d) 0))
     at : (d : MotionVector) (t : Bool) → cond t (sum d - 0) (sum d) ≡ sum d
     at d true = omega arith
     at d false = refl
-
--- zero has the discount
-pub zero-cost : (n : ℕ) (sum : MotionVector → ℕ) → discounted n sum zeroVector ≡ sum zeroVector - n
-zero-cost n sum = refl
 
 -- a source block that was laid out as a list has the sums of the source
 pub source-sums : (m : BVopSampleMode) (side : ℕ) (f : ℕ → ℕ → ℕ) (p : Plane) (x y : ℕ)

@@ -39,7 +39,7 @@ module _ (cost : MotionVector → ℕ) (w : ℕ) (b : Block) where
   abbrev pub coarseBest : MotionVector
   coarseBest = best cost zeroVector (coarse w b)
 
-  -- the rows; in a window above ±8 the lattice; if the lattice won, the dense pass
+  -- the rows; in a window above ±8, which is that of fcode above 1, the lattice; if the lattice won, the dense pass
   unfoldable pub fullRest : List MotionVector
   fullRest =
       cond (leb w 8) near

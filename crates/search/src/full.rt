@@ -3,7 +3,7 @@
 ghost use mathlib.Core.Path.{_≡_};
 ghost use mathlib.Core.List.{foldl};
 ghost use Prim.Native.Nat.{_+_, _-_, _*_, _<_, _≤_};
-ghost use lib.IntN.{pos, _+ℤ_, _-ℤ_};
+ghost use lib.IntN.{pos, _-ℤ_};
 ghost use lib.Signed.{quotZ};
 ghost use lib.ListN.{length};
 ghost use Rattle.record.specs.Zero.{zeroVector};
@@ -28,20 +28,13 @@ use plane::Point;
 use prediction::BVopSampleMode;
 use record::MotionVector;
 
-fn coordinate(at: usize, by: i32) -> i32
-    requires { ⌜ (at ≤ 4088) × (above by ≤ 8192) × (below by ≤ 8192) ⌝ }
-    ensures { λ r. ⌜ r ≡ pos at +ℤ by ⌝ }
-{
-    at as i32 + by
-}
-
 fn moved_to(x: usize, y: usize, d: MotionVector) -> Point
-    requires { ⌜ (x ≤ 4088) × (y ≤ 4088) × Within 8192 d ⌝ }
+    requires { ⌜ (x ≤ 4088) × (y ≤ 4088) × Within 4096 d ⌝ }
     ensures { λ r. ⌜ r ≡ movedTo x y d ⌝ }
 {
     Point {
-        x: coordinate(x, d.x),
-        y: coordinate(y, d.y),
+        x: rows::shifted(d.x, x),
+        y: rows::shifted(d.y, y),
     }
 }
 

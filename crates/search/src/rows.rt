@@ -15,7 +15,8 @@ use crate::Scored;
 use crate::sums;
 use record::MotionVector;
 
-fn shifted(z: i32, by: usize) -> i32
+// A component, `by` samples on.
+pub fn shifted(z: i32, by: usize) -> i32
     requires { ⌜ (above z ≤ 4096) × (below z ≤ 4096) × (by ≤ 4096) ⌝ }
     ensures { λ r. ⌜ r ≡ z +ℤ pos by ⌝ }
 {

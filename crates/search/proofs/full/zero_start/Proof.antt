@@ -25,7 +25,7 @@ zero-vector-requires c κs = search needs
 moved-to-requires : tie.Need-moved-to-requires
 moved-to-requires c κs =
     let s = c .before .before .before in
-    (s .pre .x-max, s .pre .y-max, subst (Within 8192) (sym (c .zero-vector .ensures)) (zero-within 8192))
+    (s .pre .x-max, s .pre .y-max, subst (Within 4096) (sym (c .zero-vector .ensures)) (zero-within 4096))
 
 sub-copied-sum : tie.Need-sub-copied-sum
 sub-copied-sum c = search needs
