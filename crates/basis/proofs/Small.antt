@@ -14,3 +14,13 @@ four P a b c d (suc zero) h = b
 four P a b c d (suc (suc zero)) h = c
 four P a b c d (suc (suc (suc zero))) h = d
 four P a b c d (suc (suc (suc (suc n)))) h = absurd (omega arith)
+
+-- and of 0 to 5, of every number below 6
+pub six : (P : ℕ → Type 0) → P 0 → P 1 → P 2 → P 3 → P 4 → P 5 → (n : ℕ) → n < 6 → P n
+six P a b c d e f zero h = a
+six P a b c d e f (suc zero) h = b
+six P a b c d e f (suc (suc zero)) h = c
+six P a b c d e f (suc (suc (suc zero))) h = d
+six P a b c d e f (suc (suc (suc (suc zero)))) h = e
+six P a b c d e f (suc (suc (suc (suc (suc zero))))) h = f
+six P a b c d e f (suc (suc (suc (suc (suc (suc n)))))) h = absurd (omega arith)

@@ -4,3 +4,5 @@ mod Lengths
 mod Lines
 mod Signs
 mod Whole
+-- And what the crates above cite.
+pub mod Ranges

@@ -13,14 +13,16 @@ use Rattle.basis.proofs.Case.{leb-same}
 use Rattle.refusal.specs.declared.Refusal.the-variants.{SourceSide, SourcePlane, Place}
 use Rattle.refusal.specs.declared.Reply.{Reply}
 use Rattle.refusal.specs.declared.Reply.the-variants.{Done}
-use Rattle.refusal.specs.Reply.{unless, andThen}
+use Rattle.refusal.specs.Reply.{unless, andThen, done}
 use Rattle.refusal.specs.Test.{between}
-use Rattle.refusal.proofs.Replies.{joined, first-done, then-done, held, after}
+use Rattle.refusal.proofs.Replies.{joined, first-done, then-done, held, after, both-done, left}
 use Rattle.refusal.proofs.Tests.{and-left, and-right, between-low, between-high}
 use Rattle.plane.specs.declared.SourceSize.{SourceSize}
 use Rattle.plane.specs.declared.MacroblockPlace.{MacroblockPlace}
 use Rattle.plane.specs.Held.{Held}
-use Rattle.plane.specs.Source.{chromaSize, packed, sourceSideReply, holds, placeReply, lumaReply, chromaReply, sourceReply}
+use Rattle.plane.specs.Reference.{lengthReply}
+use Rattle.plane.specs.Source.{chromaSize, packed, sourceSideReply, holds, placeReply, lumaReply, chromaReply, sourceReply, lumaBlock, chromaBlock, lumaBlockReply, chromaBlockReply}
+use Rattle.plane.proofs.Ready.{length-done}
 
 -- a plane without columns, and one that has some
 pub holds-none : (n w h : ℕ) → w ≡ 0 → true ≡ leb (w * h) n
@@ -154,3 +156,51 @@ column-small s at b p = omega (arith, b .high-w, p .column)
 
 pub row-small : (s : SourceSize) (at : MacroblockPlace) → Sides s → InSource s at → at .row < 256
 row-small s at b p = omega (arith, b .high-h, p .row)
+
+-- a source whose three planes are handed in and which is not refused: no plane alone is, and its block is copied
+module _ (s : SourceSize) (y cb cr : ℕ) (at : MacroblockPlace) (e : sourceReply s y cb cr at ≡ Done) where
+  abbrev three : Bool
+  three = holds s y && (holds (chromaSize s) cb && holds (chromaSize s) cr)
+
+  past-side : unless three SourcePlane (placeReply s at) ≡ Done
+  unfolding sourceReply
+  past-side = then-done (sourceSideReply s) (unless three SourcePlane (placeReply s at)) e
+
+  -- with one plane's test in place of three
+  one-plane : (t : Bool) → t ≡ true → andThen (sourceSideReply s) (unless t SourcePlane (placeReply s at)) ≡ Done
+  unfolding sourceReply
+  one-plane t h =
+      ap (λ (r : Reply). andThen r (unless t SourcePlane (placeReply s at))) (first-done (sourceSideReply s) (unless three SourcePlane (placeReply s at)) e)
+      ∙ ap (λ (u : Bool). unless u SourcePlane (placeReply s at)) h
+      ∙ after three SourcePlane (placeReply s at) past-side
+
+  three-held : three ≡ true
+  three-held = held three SourcePlane (placeReply s at) past-side
+
+  pub luma-alone : lumaReply s y at ≡ Done
+  unfolding lumaReply
+  luma-alone = one-plane (holds s y) (and-left (holds s y) (holds (chromaSize s) cb && holds (chromaSize s) cr) three-held)
+
+  two-held : (holds (chromaSize s) cb && holds (chromaSize s) cr) ≡ true
+  two-held = and-right (holds s y) (holds (chromaSize s) cb && holds (chromaSize s) cr) three-held
+
+  pub blue-alone : chromaReply s cb at ≡ Done
+  unfolding chromaReply
+  blue-alone = one-plane (holds (chromaSize s) cb) (and-left (holds (chromaSize s) cb) (holds (chromaSize s) cr) two-held)
+
+  pub red-alone : chromaReply s cr at ≡ Done
+  unfolding chromaReply
+  red-alone = one-plane (holds (chromaSize s) cr) (and-right (holds (chromaSize s) cb) (holds (chromaSize s) cr) two-held)
+
+-- an area of w h places, where nothing is refused, holds the block
+block-is : (judged : Reply) (w h : ℕ) (block old out : List ℕ) (r : Reply) → judged ≡ Done → length old ≡ w * h
+    → r ≡ andThen judged (lengthReply (length old) w h) → out ≡ done r block old → out ≡ block
+block-is judged w h block old out r e f k o = left r _ block old out k (both-done e (length-done (length old) w h f)) o
+
+pub luma-is : (y : List ℕ) (s : SourceSize) (at : MacroblockPlace) (r : Reply) (old out : List ℕ) → lumaReply s (length y) at ≡ Done → length old ≡ 256
+    → r ≡ lumaBlockReply s (length y) at (length old) → out ≡ done r (lumaBlock y s at) old → out ≡ lumaBlock y s at
+luma-is y s at r old out = block-is (lumaReply s (length y) at) 16 16 (lumaBlock y s at) old out r
+
+pub chroma-is : (c : List ℕ) (s : SourceSize) (at : MacroblockPlace) (r : Reply) (old out : List ℕ) → chromaReply s (length c) at ≡ Done → length old ≡ 64
+    → r ≡ chromaBlockReply s (length c) at (length old) → out ≡ done r (chromaBlock c s at) old → out ≡ chromaBlock c s at
+chroma-is c s at r old out = block-is (chromaReply s (length c) at) 8 8 (chromaBlock c s at) old out r

@@ -1,9 +1,10 @@
 -- The source picture: its refusals, and a macroblock's blocks, past the right or bottom the last column or row repeated.
-use Prim.Native.Nat.{ℕ, _+_, _*_, _/_}
+use Prim.Native.Nat.{ℕ, _+_, _*_, _/_, _%_}
 use mathlib.Core.Bool.{Bool, _&&_}
 use mathlib.Core.List.{List}
 use lib.Dec.{leb, ltb}
 use lib.IntN.{pos}
+use lib.ListN.{getD}
 use Rattle.basis.specs.Lists.{raster}
 use Rattle.refusal.specs.declared.Refusal.the-variants.{SourceSide, SourcePlane, Place}
 use Rattle.refusal.specs.declared.Reply.{Reply}
@@ -55,6 +56,10 @@ lumaBlock y s at = raster 16 16 (copied (packed y s) (pos (16 * at .column)) (po
 
 abbrev pub chromaBlock : List ℕ → SourceSize → MacroblockPlace → List ℕ
 chromaBlock c s at = raster 8 8 (copied (packed c (chromaSize s)) (pos (8 * at .column)) (pos (8 * at .row)))
+
+-- 8 x 8 block n of 16 x 16 luma samples, 0 and 1 above 2 and 3
+abbrev pub eightOf : List ℕ → ℕ → List ℕ
+eightOf y n = raster 8 8 (λ i j. getD y ((8 * (n / 2) + j) * 16 + (8 * (n % 2) + i)) 0)
 
 -- 6, 7, 8, 12
 abbrev pub lumaBlockReply : SourceSize → ℕ → MacroblockPlace → ℕ → Reply

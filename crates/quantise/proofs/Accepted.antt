@@ -13,9 +13,9 @@ use Rattle.refusal.specs.declared.Reply.the-variants.{Done}
 use Rattle.refusal.specs.Reply.{unless}
 use Rattle.refusal.specs.Test.{between, inRange, allInRange}
 use Rattle.refusal.proofs.Every.{every-at}
-use Rattle.refusal.proofs.Replies.{held, after}
+use Rattle.refusal.proofs.Replies.{first-done, then-done, held, after}
 use Rattle.refusal.proofs.Tests.{and-left, and-right, between-low, between-high}
-use Rattle.quantise.specs.Block.{noZero, quantiseReply, inverseReply}
+use Rattle.quantise.specs.Block.{noZero, weightReply, quantiseReply, inverseReply}
 use Rattle.quantise.proofs.Signs.{size-in}
 
 not-zero : (w : ℕ) → not (eqb w 0) ≡ true → 1 ≤ w
@@ -36,30 +36,48 @@ pub record Sound (fs : List ℤ) (q : ℕ) (weights : List ℕ) (n : ℕ) : Type
   pub small : (i : ℕ) → i < 64 → natAbs (getD fs i (pos 0)) ≤ 2048
   pub ranged : (i : ℕ) → i < 64 → inRange (negsuc 2047) (pos 2047) (getD fs i (pos 0)) ≡ true
 
+-- quantiser and weights that are taken
+module _ (q : ℕ) (first : Bool) (weights : List ℕ) (e : weightReply q first weights ≡ Done) where
+  quantiser-in : between 1 31 q ≡ true
+  unfolding weightReply
+  quantiser-in = held (between 1 31 q) Quantiser (unless (not first || noZero weights) Weight Done) e
+
+  weights-serve : (not first || noZero weights) ≡ true
+  unfolding weightReply
+  weights-serve = held (not first || noZero weights) Weight Done (after (between 1 31 q) Quantiser (unless (not first || noZero weights) Weight Done) e)
+
+  pub quantiser-low : 1 ≤ q
+  quantiser-low = between-low 1 31 q quantiser-in
+
+  pub quantiser-high : q ≤ 31
+  quantiser-high = between-high 1 31 q quantiser-in
+
 module _ (fs : List ℤ) (q : ℕ) (first : Bool) (weights : List ℕ) (n : ℕ) (e : quantiseReply fs q first weights n ≡ Done) where
   -- the tests that were passed, one after the other
-  past-quantiser : unless (not first || noZero weights) Weight (unless (eqb (length fs) 64 && (eqb (length weights) 64 && eqb n 64)) Length (unless (allInRange (negsuc 2047) (pos 2047) fs) Range Done)) ≡ Done
+  abbrev long-tests : Bool
+  long-tests = eqb (length fs) 64 && (eqb (length weights) 64 && eqb n 64)
+
+  weighed : weightReply q first weights ≡ Done
   unfolding quantiseReply
-  past-quantiser = after (between 1 31 q) Quantiser _ e
+  weighed = first-done (weightReply q first weights) _ e
 
-  past-weight : unless (eqb (length fs) 64 && (eqb (length weights) 64 && eqb n 64)) Length (unless (allInRange (negsuc 2047) (pos 2047) fs) Range Done) ≡ Done
-  past-weight = after (not first || noZero weights) Weight _ past-quantiser
+  past-weight : unless long-tests Length (unless (allInRange (negsuc 2047) (pos 2047) fs) Range Done) ≡ Done
+  unfolding quantiseReply
+  past-weight = then-done (weightReply q first weights) _ e
 
-  sizes : (eqb (length fs) 64 && (eqb (length weights) 64 && eqb n 64)) ≡ true
-  sizes = held (eqb (length fs) 64 && (eqb (length weights) 64 && eqb n 64)) Length _ past-weight
+  sizes : long-tests ≡ true
+  sizes = held long-tests Length _ past-weight
 
   pub sound : Sound fs q weights n
-  unfolding quantiseReply
   sound =
-      let scale = held (between 1 31 q) Quantiser _ e in
       let long : length fs ≡ 64 = eqb-true _ 64 (and-left (eqb (length fs) 64) _ sizes) in
       let areas = and-right (eqb (length fs) 64) _ sizes in
-      let range = held (allInRange (negsuc 2047) (pos 2047) fs) Range Done (after (eqb (length fs) 64 && (eqb (length weights) 64 && eqb n 64)) Length _ past-weight) in
+      let range = held (allInRange (negsuc 2047) (pos 2047) fs) Range Done (after long-tests Length _ past-weight) in
       let ranged : (i : ℕ) → i < 64 → inRange (negsuc 2047) (pos 2047) (getD fs i (pos 0)) ≡ true =
       λ i h. every-at (inRange (negsuc 2047) (pos 2047)) fs i (pos 0) range (omega arith) in
       record {
-        low = between-low 1 31 q scale;
-        high = between-high 1 31 q scale;
+        low = quantiser-low q first weights weighed;
+        high = quantiser-high q first weights weighed;
         long = long;
         weights-long = eqb-true _ 64 (and-left (eqb (length weights) 64) _ areas);
         area-long = eqb-true _ 64 (and-right (eqb (length weights) 64) _ areas);
@@ -70,7 +88,7 @@ module _ (fs : List ℤ) (q : ℕ) (first : Bool) (weights : List ℕ) (n : ℕ)
   pub weight-some : first ≡ true → (i : ℕ) → i < 64 → 1 ≤ getD weights i 0
   weight-some t i h =
       not-zero _
-      (every-at (λ (w : ℕ). not (eqb w 0)) weights i 0 (sym (ap (λ (b : Bool). not b || noZero weights) t) ∙ held (not first || noZero weights) Weight _ past-quantiser) (omega (arith, sound .weights-long)))
+      (every-at (λ (w : ℕ). not (eqb w 0)) weights i 0 (sym (ap (λ (b : Bool). not b || noZero weights) t) ∙ weights-serve q first weights weighed) (omega (arith, sound .weights-long)))
 
 pub record SoundInverse (levels : List ℤ) (q n : ℕ) : Type 0 where
   pub low : 1 ≤ q

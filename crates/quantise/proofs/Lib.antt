@@ -1,3 +1,4 @@
 pub mod Signs
 pub mod Accepted
 pub mod Near
+pub mod Ranges

@@ -10,7 +10,7 @@ use Rattle.basis.specs.Lists.{tabulate}
 use Rattle.refusal.specs.declared.Refusal.the-variants.{Quantiser, Weight, Length, Range}
 use Rattle.refusal.specs.declared.Reply.{Reply}
 use Rattle.refusal.specs.declared.Reply.the-variants.{Done}
-use Rattle.refusal.specs.Reply.{unless}
+use Rattle.refusal.specs.Reply.{unless, andThen}
 use Rattle.refusal.specs.Test.{between, every, allInRange}
 use Rattle.quantise.specs.Level.{levelOf, levelByWeight, inverseOf}
 
@@ -28,15 +28,18 @@ blockInverse q levels = tabulate 64 (λ i. inverseOf q (getD levels i (pos 0)))
 abbrev pub noZero : List ℕ → Bool
 noZero weights = every (λ w. not (eqb w 0)) weights
 
--- of coefficients, the quantiser, the method, weights, and an output area of n places
+-- 10: quantiser not 1..31. 11: first method, a zero weight
+unfoldable pub weightReply : ℕ → Bool → List ℕ → Reply
+weightReply q first weights = unless (between 1 31 q) Quantiser (unless (not first || noZero weights) Weight Done)
+
+-- 10, 11, 12, 13, of coefficients, the quantiser, the method, weights, and an output area of n places
 unfoldable pub quantiseReply : List ℤ → ℕ → Bool → List ℕ → ℕ → Reply
 quantiseReply fs q first weights n =
-    unless (between 1 31 q) Quantiser
-    (unless (not first || noZero weights) Weight
+    andThen (weightReply q first weights)
     (unless (eqb (length fs) 64 && (eqb (length weights) 64 && eqb n 64)) Length
-    (unless (allInRange (negsuc 2047) (pos 2047) fs) Range Done)))
+    (unless (allInRange (negsuc 2047) (pos 2047) fs) Range Done))
 
--- of levels, the quantiser, and an output area of n places
+-- 10, 12, 13, of levels, the quantiser, and an output area of n places
 unfoldable pub inverseReply : List ℤ → ℕ → ℕ → Reply
 inverseReply levels q n =
     unless (between 1 31 q) Quantiser

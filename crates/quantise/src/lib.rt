@@ -4,7 +4,7 @@ ghost use mathlib.Core.Bool.{true, false, not, _||_};
 ghost use lib.ListN.{length};
 ghost use Rattle.refusal.specs.declared.Reply.the-variants.{Done};
 ghost use Rattle.refusal.specs.Reply.{done};
-ghost use Rattle.quantise.specs.Block.{noZero, blockLevels, blockInverse, quantiseReply, inverseReply};
+ghost use Rattle.quantise.specs.Block.{noZero, blockLevels, blockInverse, weightReply, quantiseReply, inverseReply};
 ghost use Rattle.quantise.specs.Near.{NearAll};
 use refusal::Refusal;
 use refusal::Reply;
@@ -27,6 +27,16 @@ fn weights_serve(first_method: bool, weights: &[u8]) -> bool
     if first_method { no_zero(weights) } else { true }
 }
 
+// What turns quantiser and weights back: 10, 11.
+pub fn weight_reply(quantiser: u32, first_method: bool, weights: &[u8]) -> Reply
+    ensures { λ r. ⌜ r ≡ weightReply quantiser «first_method» (now (weights .entry)) ⌝ }
+{
+    let known = refusal::between(1, 31, quantiser as usize);
+    let serve = weights_serve(first_method, weights);
+    let second = refusal::unless(serve, Refusal::Weight, Reply::Done);
+    refusal::unless(known, Refusal::Quantiser, second)
+}
+
 // What turns a block back: 10, 11, 12, 13.
 fn quantise_reply(
     coefficients: &[i32],
@@ -42,12 +52,10 @@ fn quantise_reply(
         refusal::both(weights.len() == 64, area == 64),
     );
     let good = refusal::all_in_range(-2048, 2047, coefficients);
-    let serve = weights_serve(first_method, weights);
-    let scale = refusal::between(1, 31, quantiser as usize);
     let range = refusal::unless(good, Refusal::Range, Reply::Done);
     let length = refusal::unless(sizes, Refusal::Length, range);
-    let weight = refusal::unless(serve, Refusal::Weight, length);
-    refusal::unless(scale, Refusal::Quantiser, weight)
+    let weight = weight_reply(quantiser, first_method, weights);
+    refusal::and_then(weight, length)
 }
 
 fn by_weights(coefficients: &[i32], quantiser: u32, weights: &[u8], out: &mut [i32])

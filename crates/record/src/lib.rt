@@ -1,6 +1,7 @@
 // What coder and reader both hold: a motion vector, and the record of a macroblock.
 ghost use mathlib.Core.Path.{_≡_};
 ghost use Rattle.record.specs.Zero.{zeroVector, noRecord};
+ghost use Rattle.record.specs.Pattern.{worth, isCoded};
 
 // In half or quarter samples, as the mode has it.
 pub struct MotionVector {
@@ -40,4 +41,30 @@ pub fn no_record() -> Record
         chroma_pattern: 0,
         counts: [0; 6],
     }
+}
+
+// What a block's bit is worth in its pattern.
+fn worth(block: usize) -> u8
+    ensures { λ r. ⌜ r ≡ worth block ⌝ }
+{
+    match block {
+        0 => 8,
+        1 => 4,
+        2 => 2,
+        3 => 1,
+        4 => 2,
+        5 => 1,
+        _ => 0,
+    }
+}
+
+// Whether a block has an event: blocks 0 to 3 are luma's, 4 is Cb, 5 is Cr, and there are no others.
+pub fn is_coded(given: Record, block: usize) -> bool
+    ensures { λ r. ⌜ r ≡ isCoded given block ⌝ }
+{
+    let mask = worth(block);
+    if block < 4 {
+        return given.luma_pattern & mask != 0;
+    }
+    given.chroma_pattern & mask != 0
 }

@@ -7,6 +7,7 @@ use mathlib.Core.List.{List, [], _∷_}
 use mathlib.Core.Path.{_≡_, refl, sym, ap, _∙_}
 use lib.ListN.{length, getD, drop, drop-of-length-le}
 use lib.Seq.{drop-cons}
+use Rattle.basis.proofs.Case.{both}
 use Rattle.refusal.specs.Test.{every}
 use Rattle.refusal.proofs.Tests.{and-left, and-right}
 
@@ -36,3 +37,8 @@ module _ {A : Type 0} (p : A → Bool) where
   every-at [] i d e h = absurd (omega arith)
   every-at (x ∷ l) zero d e h = and-left (p x) (every p l) e
   every-at (x ∷ l) (suc i) d e h = every-at l i d (and-right (p x) (every p l) e) (omega arith)
+
+  -- and back
+  pub every-is : (l : List A) (d : A) → ((i : ℕ) → i < length l → p (getD l i d) ≡ true) → every p l ≡ true
+  every-is [] d h = refl
+  every-is (x ∷ l) d h = both (h 0 (omega arith)) (every-is l d (λ i b. h (suc i) (omega arith)))

@@ -9,7 +9,8 @@ use mir.Syntax.{w32}
 use mir.Val.{toZ, ofZ}
 use borrow.Author.Tests.{leb-true}
 use Rattle.basis.specs.Parts.{above, below}
-use Rattle.basis.proofs.Signed.{le-true, of-bits}
+use Rattle.basis.proofs.Case.{both}
+use Rattle.basis.proofs.Signed.{le-true, le-is, of-bits}
 use Rattle.refusal.specs.Test.{between, inRange}
 
 pub and-left : (a b : Bool) → (a && b) ≡ true → a ≡ true
@@ -36,6 +37,10 @@ range-low low high z e = le-true low z (and-left (leZ low z) (leZ z high) e)
 
 pub range-high : (low high z : ℤ) → inRange low high z ≡ true → above z + below high ≤ above high + below z
 range-high low high z e = le-true z high (and-right (leZ low z) (leZ z high) e)
+
+-- and back
+pub range-is : (low high z : ℤ) → above low + below z ≤ above z + below low → above z + below high ≤ above high + below z → inRange low high z ≡ true
+range-is low high z h k = both (le-is low z h) (le-is z high k)
 
 -- of a signed field, which is read back from its bits
 pub range-read : (low high z : ℤ) → mag z < 2 ^ 31 → inRange low high z ≡ true → inRange low high (toZ w32 (ofZ w32 z)) ≡ true

@@ -1,4 +1,5 @@
 pub mod Accepted
+pub mod AreaLengths
 pub mod Grids
 pub mod ReadBack
 pub mod Writing

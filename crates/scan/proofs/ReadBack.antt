@@ -7,13 +7,14 @@ use mathlib.Core.List.{List, [], _∷_, _++_, map, append-assoc}
 use mathlib.Core.Path.{_≡_, refl, sym, ap, _∙_}
 use borrow.Author.Tests.{eqb-true}
 use lib.IntN.{ℤ, pos, negsuc}
-use lib.ListN.{length, set, replicate, length-append, length-replicate, replicate-append-replicate}
+use lib.ListN.{length, set, replicate, length-append, length-replicate, getD-replicate, replicate-append-replicate}
 use lib.Seq.{set-at, append-snoc}
 use Rattle.basis.proofs.Case.{then, else}
+use Rattle.basis.proofs.Lists.{tabulate-cong, tabulate-const}
 use Rattle.scan.specs.Event.{Event, isZero, eventsAfter, eventsOf, marks, area, lastsArea, runsArea, levelsArea}
 use Rattle.scan.specs.Read.{readFrom, readEvents, ReadsBack, BlockReadsBack}
-use Rattle.scan.specs.Grid.{gridOf, scanned, unscanned}
-use Rattle.scan.proofs.Grids.{length-scanned, returns}
+use Rattle.scan.specs.Grid.{gridOf, entryAt, placeOf, scanned, unscanned}
+use Rattle.scan.proofs.Grids.{length-scanned, permutes, returns}
 
 abbrev zeros : ℕ → List ℤ
 zeros n = replicate n (pos 0)
@@ -156,6 +157,24 @@ reads-back levels full =
         clash : eventsOf levels ≡ [] → _≡_ {A = ℕ} 0 1
         clash n = let w = sym n ∙ e in cc
 
+-- zeros are zeros in either order
+zeros-scanned : (s : ℕ) → scanned (gridOf s) (zeros 64) ≡ zeros 64
+unfolding scanned
+zeros-scanned s =
+    tabulate-cong 64 _ (λ _. pos 0) (λ k h. getD-replicate 64 (placeOf (gridOf s) k) (pos 0) (pos 0) (permutes s .place-below k h))
+    ∙ tabulate-const 64 (pos 0)
+
+zeros-unscanned : (s : ℕ) → unscanned (gridOf s) (zeros 64) ≡ zeros 64
+unfolding unscanned
+zeros-unscanned s =
+    tabulate-cong 64 _ (λ _. pos 0) (λ p h. getD-replicate 64 (entryAt (gridOf s) p) (pos 0) (pos 0) (permutes s .entry-below p h))
+    ∙ tabulate-const 64 (pos 0)
+
 pub block-reads-back : (s : ℕ) (levels : List ℤ) → length levels ≡ 64 → BlockReadsBack s levels
 block-reads-back s levels full =
-    record { same = ap (unscanned (gridOf s)) (reads-back (scanned (gridOf s) levels) (length-scanned (gridOf s) levels) .same) ∙ returns s .by-rows levels full }
+    let back = reads-back (scanned (gridOf s) levels) (length-scanned (gridOf s) levels) in
+    record {
+      same = ap (unscanned (gridOf s)) (back .same) ∙ returns s .by-rows levels full;
+      none = λ e. back .none (ap (scanned (gridOf s)) e ∙ zeros-scanned s);
+      empty = λ e. sym (returns s .by-rows levels full) ∙ ap (unscanned (gridOf s)) (back .empty e) ∙ zeros-unscanned s;
+    }

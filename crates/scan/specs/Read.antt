@@ -6,8 +6,8 @@ use mathlib.Core.List.{List, [], _∷_}
 use mathlib.Core.Path.{_≡_}
 use lib.Dec.{eqb}
 use lib.IntN.{ℤ, pos}
-use lib.ListN.{replicate, set}
-use Rattle.scan.specs.Event.{lastsArea, runsArea, levelsArea}
+use lib.ListN.{length, replicate, set}
+use Rattle.scan.specs.Event.{eventsOf, lastsArea, runsArea, levelsArea}
 use Rattle.scan.specs.Grid.{gridOf, scanned, unscanned}
 
 -- each event, up to and with the one marked last, adds its run to the counter, puts its level at the scan place so counted and adds 1
@@ -37,3 +37,5 @@ pub record ReadsBack (levels : List ℤ) (lasts runs : List ℕ) (values : List 
 -- a block's levels by rows, put into scan order and made events of, read back
 pub record BlockReadsBack (s : ℕ) (levels : List ℤ) : Type 0 where
   pub same : readBlock s (lastsArea (scanned (gridOf s) levels)) (runsArea (scanned (gridOf s) levels)) (levelsArea (scanned (gridOf s) levels)) ≡ levels
+  pub none : levels ≡ replicate 64 (pos 0) → length (eventsOf (scanned (gridOf s) levels)) ≡ 0
+  pub empty : length (eventsOf (scanned (gridOf s) levels)) ≡ 0 → levels ≡ replicate 64 (pos 0)

@@ -1,4 +1,5 @@
 pub mod Demanded
+pub mod Answered
 pub mod Eights
 pub mod Ends
 pub mod FullSearch

@@ -7,16 +7,11 @@ use lib.IntN.{pos}
 use lib.ListN.{length}
 use Rattle.basis.specs.Lists.{raster}
 use Rattle.basis.proofs.Lists.{length-raster}
-use Rattle.refusal.specs.declared.Reply.{Reply}
-use Rattle.refusal.specs.declared.Reply.the-variants.{Done}
-use Rattle.refusal.specs.Reply.{andThen, done}
 use Rattle.plane.specs.declared.Geometry.{Geometry}
 use Rattle.plane.specs.declared.SourceSize.{SourceSize}
 use Rattle.plane.specs.declared.MacroblockPlace.{MacroblockPlace}
 use Rattle.plane.specs.Plane.{Plane, copied}
-use Rattle.plane.specs.Reference.{lengthReply}
-use Rattle.plane.specs.Source.{packed, lumaReply, lumaBlock, lumaBlockReply}
-use Rattle.plane.proofs.Ready.{length-done}
+use Rattle.plane.specs.Source.{packed, lumaBlock}
 use Rattle.prediction.specs.declared.BVopSampleMode.{BVopSampleMode}
 use Rattle.search.specs.Sums.{Block}
 use Rattle.search.specs.Told.{blockOf, Ready, Judged}
@@ -36,15 +31,7 @@ module _ (y : List ℕ) (s : SourceSize) (at : MacroblockPlace) where
   abbrev pub samplesOf : ℕ → ℕ → ℕ
   samplesOf = copied (packed y s) (pos (16 * at .column)) (pos (16 * at .row))
 
-  -- it is copied
-  pub luma-is : (r : Reply) (old out : List ℕ) → lumaReply s (length y) at ≡ Done → length old ≡ 256
-      → r ≡ lumaBlockReply s (length y) at (length old) → out ≡ done r (lumaBlock y s at) old → out ≡ lumaBlock y s at
-  luma-is r old out e f k o =
-      o
-      ∙ ap (λ (r : Reply). done r (lumaBlock y s at) old)
-      (k ∙ ap (λ (r : Reply). andThen r (lengthReply (length old) 16 16)) e ∙ length-done (length old) 16 16 f)
-
-  -- and can be searched for
+  -- it can be searched for
   pub luma-searched : (samples : List ℕ) (g : Geometry) (m : BVopSampleMode) (fcode : ℕ) (l : List ℕ) → Judged y samples s at g m fcode → l ≡ lumaBlock y s at
       → Ready 16 l samples g (16 * at .column) (16 * at .row)
   luma-searched samples g m fcode l j e =

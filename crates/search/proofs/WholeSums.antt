@@ -1,7 +1,9 @@
--- Equal sums: of a displacement by whole samples from the reference's own samples, and of a source block from its list. Assumes nothing.
+-- Equal sums: of a displacement by whole samples from the reference's own samples, and of source and predicted blocks from their lists.
+-- Assumes nothing.
 use Prim.Native.Nat.{ℕ, _+_, _-_, _*_, _≤_, _<_}
 use native.Mathlib.Omega.{arith}
 use mathlib.Core.Bool.{Bool, true, false, cond}
+use mathlib.Core.List.{List}
 use mathlib.Core.Path.{_≡_, refl, sym, ap₂, fun-ext}
 use lib.Dec.{eqb}
 use lib.IntN.{pos, _+ℤ_}
@@ -13,7 +15,8 @@ use Rattle.basis.proofs.Sums.{sumTo-cong}
 use Rattle.record.specs.declared.MotionVector.{MotionVector}
 use Rattle.plane.specs.Plane.{Plane, copied}
 use Rattle.prediction.specs.declared.BVopSampleMode.{BVopSampleMode}
-use Rattle.prediction.specs.Luma.{wholeVector, lumaSample}
+use Rattle.prediction.specs.Luma.{wholeVector, lumaSample, lumaBlock}
+use Rattle.prediction.proofs.LumaAt.{luma-at}
 use Rattle.prediction.proofs.Whole.{whole-place}
 use Rattle.search.specs.Places.{distance}
 use Rattle.search.specs.Sums.{absDiff, differences, Block, corner, vectorSum, wholeSum}
@@ -57,3 +60,12 @@ unfolding vectorSum
 source-sums m side f p x y =
     fun-ext
     (λ v. differences-cong side (λ i j. getD (raster side side f) (j * side + i) 0) f _ _ (λ i j a b. getD-raster side side f i j 0 a b) (λ i j a b. refl))
+
+-- the sum of a source block laid out by rows against a predicted block is the vector's
+pub sum-of-blocks : (m : BVopSampleMode) (b : Block) (source : List ℕ) → ((i j : ℕ) → i < b .side → j < b .side → getD source (j * b .side + i) 0 ≡ b .source i j)
+    → (v : MotionVector)
+    → differences (b .side) (λ i j. getD source (j * b .side + i) 0) (λ i j. getD (lumaBlock m (b .reference) v (corner b) (b .side) (b .side) 0) (j * b .side + i) 0)
+    ≡ vectorSum m b v
+unfolding vectorSum
+sum-of-blocks m b source same v =
+    differences-cong (b .side) _ _ _ _ same (λ i j h k. luma-at m (b .reference) v (corner b) (b .side) (b .side) 0 i j h k)

@@ -30,8 +30,11 @@ unfoldable pub vectorSum : BVopSampleMode → Block → MotionVector → ℕ
 vectorSum m b v = differences (b .side) (b .source) (lumaSample m (b .reference) v (corner b) (b .side) (b .side) 0)
 
 -- of a displacement by whole samples
+abbrev pub atWhole : BVopSampleMode → (MotionVector → ℕ) → MotionVector → ℕ
+atWhole m sum d = sum (wholeVector m (d .x) (d .y))
+
 abbrev pub wholeSum : BVopSampleMode → Block → MotionVector → ℕ
-wholeSum m b d = vectorSum m b (wholeVector m (d .x) (d .y))
+wholeSum m b = atWhole m (vectorSum m b)
 
 -- 8 x 8 block n of a macroblock, 0 and 1 above 2 and 3
 abbrev pub eight : Block → ℕ → Block

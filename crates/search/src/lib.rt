@@ -2,12 +2,12 @@
 // samples around the winner. It leans on what `prediction` and `plane` promise and repeats none of their arithmetic.
 ghost use mathlib.Core.Path.{_≡_};
 ghost use mathlib.Core.Bool.{true};
-ghost use Prim.Native.Nat.{_+_, _*_, _/_, _%_, _<_, _≤_};
-ghost use lib.ListN.{length, getD};
-ghost use Rattle.basis.specs.Lists.{raster};
+ghost use Prim.Native.Nat.{_<_, _≤_};
+ghost use lib.ListN.{length};
 ghost use Rattle.refusal.specs.declared.Reply.the-variants.{Done};
 ghost use Rattle.refusal.specs.Test.{between};
 ghost use Rattle.plane.specs.Plane.{planeOf};
+ghost use Rattle.plane.specs.Source.{eightOf};
 ghost use Rattle.search.specs.Range.{vectorIn};
 ghost use Rattle.search.specs.Sums.{eight};
 ghost use Rattle.search.specs.Estimate.{modeOf, macroblock, settingsReply, searchReply, seedReply, fourReply, oneVector, blockVector, fourVectors, estimateMotion, estimateFour};
@@ -67,7 +67,7 @@ fn mode_of(mode: u32, bpp: u32) -> BVopSampleMode
 }
 
 // 1, 2, 3
-fn settings_reply(fcode: u32, mode: u32, bpp: u32) -> Reply
+pub fn settings_reply(fcode: u32, mode: u32, bpp: u32) -> Reply
     ensures { λ r. ⌜ r ≡ settingsReply fcode mode bpp ⌝ }
 {
     let bits = refusal::either(mode == 0, refusal::between(1, 8, bpp as usize));
@@ -189,7 +189,7 @@ fn four_reply(
 // The samples of 8 x 8 block n of a macroblock.
 fn eight_samples(macroblock: &[u8], n: usize, out: &mut [u8])
     requires { ⌜ (length (now macroblock) ≡ 256) × (n < 4) × (length (now out) ≡ 64) ⌝ }
-    ensures { λ _. ⌜ now (out .exit) ≡ raster 8 8 (λ i j. getD (now (macroblock .entry)) ((8 * (n / 2) + j) * 16 + (8 * (n % 2) + i)) 0) ⌝ }
+    ensures { λ _. ⌜ now (out .exit) ≡ eightOf (now (macroblock .entry)) n ⌝ }
 {
     let whole = Geometry {
         width: 16,

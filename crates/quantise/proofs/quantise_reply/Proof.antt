@@ -3,10 +3,11 @@ use mathlib.Core.Bool.{Bool, _&&_}
 use mathlib.Core.Path.{ap, ap₂, _∙_}
 use lib.Dec.{eqb}
 use lib.ListN.{length}
-use Rattle.refusal.specs.declared.Refusal.the-variants.{Quantiser, Weight, Length, Range}
+use Rattle.refusal.specs.declared.Refusal.the-variants.{Length, Range}
 use Rattle.refusal.specs.declared.Reply.{Reply}
 use Rattle.refusal.specs.declared.Reply.the-variants.{Done}
 use Rattle.refusal.specs.Reply.{unless}
+use Rattle.refusal.proofs.Replies.{joined}
 use Rattle.quantise.specs.Block.{quantiseReply}
 use borrow.Author.Needs.{needs}
 use Rattle.quantise.proofs.quantise_reply.Statement.{statement}
@@ -21,23 +22,17 @@ both-requires-2 c κs = search needs
 all-in-range-requires : tie.Need-all-in-range-requires
 all-in-range-requires c κs = search needs
 
-weights-serve-requires : tie.Need-weights-serve-requires
-weights-serve-requires c κs = search needs
-
-between-requires : tie.Need-between-requires
-between-requires c κs = search needs
-
 unless-requires : tie.Need-unless-requires
 unless-requires c κs = search needs
 
 unless-requires-2 : tie.Need-unless-requires-2
 unless-requires-2 c κs = search needs
 
-unless-requires-3 : tie.Need-unless-requires-3
-unless-requires-3 c κs = search needs
+weight-reply-requires : tie.Need-weight-reply-requires
+weight-reply-requires c κs = search needs
 
-unless-requires-4 : tie.Need-unless-requires-4
-unless-requires-4 c κs = search needs
+and-then-requires : tie.Need-and-then-requires
+and-then-requires c κs = search needs
 
 returns : tie.Need-returns
 unfolding quantiseReply
@@ -46,12 +41,11 @@ returns c =
     let l = w .before in
     let r = l .before in
     let t = r .before in
-    let b = t .before .before .before in
+    let b = t .before in
     let sizes = b .both2 .ensures ∙ ap (λ (x : Bool). eqb (length (b .before .before .before .args .coefficients .now)) 64 && x) (b .before .both .ensures) in
-    let range = r .unless .ensures ∙ ap (λ (x : Bool). unless x Range Done) (t .before .before .all-in-range .ensures) in
+    let range = r .unless .ensures ∙ ap (λ (x : Bool). unless x Range Done) (t .all-in-range .ensures) in
     let long = l .unless2 .ensures ∙ ap₂ (λ (x : Bool) (n : Reply). unless x Length n) sizes range in
-    let weight = w .unless3 .ensures ∙ ap₂ (λ (x : Bool) (n : Reply). unless x Weight n) (t .before .weights-serve .ensures) long in
-    c .unless4 .ensures ∙ ap₂ (λ (x : Bool) (n : Reply). unless x Quantiser n) (t .between .ensures) weight
+    joined (c .and-then .ensures) (w .weight-reply .ensures) long
 
 pub quantise-reply-spec : {M : Type 1} → statement M
 quantise-reply-spec =
@@ -60,10 +54,8 @@ quantise-reply-spec =
     both-requires
     both-requires-2
     all-in-range-requires
-    weights-serve-requires
-    between-requires
     unless-requires
     unless-requires-2
-    unless-requires-3
-    unless-requires-4
+    weight-reply-requires
+    and-then-requires
     returns)

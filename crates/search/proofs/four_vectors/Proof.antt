@@ -13,7 +13,8 @@ use Rattle.search.specs.Estimate.{blockVector}
 use Rattle.search.specs.Told.{Set, Ready, blockOf}
 use Rattle.search.proofs.Eights.{four-are}
 use Rattle.search.proofs.Judge.{column-most, row-most}
-use Rattle.search.proofs.SourceBlock.{samplesOf, luma-is, luma-searched}
+use Rattle.plane.proofs.ReadySource.{luma-is}
+use Rattle.search.proofs.SourceBlock.{samplesOf, luma-searched}
 use borrow.Author.Needs.{needs}
 use Rattle.search.proofs.four_vectors.Statement.{statement}
 use Rattle.search.proofs.four_vectors.Tie as tie

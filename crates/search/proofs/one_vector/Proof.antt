@@ -17,7 +17,8 @@ use Rattle.search.proofs.Judge.{column-most, row-most}
 use Rattle.search.proofs.Windows.{window-most}
 use Rattle.search.proofs.Near.{winner-within}
 use Rattle.search.proofs.Searched.{searched}
-use Rattle.search.proofs.SourceBlock.{samplesOf, luma-is, luma-searched}
+use Rattle.plane.proofs.ReadySource.{luma-is}
+use Rattle.search.proofs.SourceBlock.{samplesOf, luma-searched}
 use borrow.Author.Needs.{needs}
 use Rattle.search.proofs.one_vector.Statement.{statement}
 use Rattle.search.proofs.one_vector.Tie as tie

@@ -1,0 +1,43 @@
+-- A block has 64 coefficients, each in -2,048..2,047, whatever the residual. Assumes nothing.
+use Prim.Native.Nat.{ℕ, _/_, _%_, _<_, min}
+use native.Mathlib.Omega.{arith}
+use mathlib.Core.Bool.{Bool, true, false}
+use mathlib.Core.List.{List}
+use mathlib.Core.Path.{_≡_, ap, _∙_}
+use lib.IntN.{ℤ, pos, negsuc, negℤ}
+use lib.Ieee.{Float}
+use lib.ListN.{length, getD}
+use Rattle.basis.proofs.Lists.{length-tabulate, getD-tabulate}
+use Rattle.basis.proofs.Parts.{above-neg, below-neg}
+use Rattle.refusal.specs.Test.{inRange, allInRange}
+use Rattle.refusal.proofs.Every.{every-is}
+use Rattle.refusal.proofs.Tests.{range-is}
+use Rattle.fdct.specs.Block.{sample, coefficient, coefficients}
+use Rattle.fdct.specs.Line.{fdct1d}
+use Rattle.fdct.specs.Rounding.{magnitude, negative, clamped, coefficientOf}
+
+clamped-in : (minus : Bool) (n : ℕ) → inRange (negsuc 2047) (pos 2047) (clamped minus n) ≡ true
+clamped-in false n = range-is (negsuc 2047) (pos 2047) (pos (min n 2047)) (omega arith) (omega arith)
+clamped-in true n =
+    let a = above-neg (pos (min n 2048)) in
+    let b = below-neg (pos (min n 2048)) in
+    range-is (negsuc 2047) (pos 2047) (negℤ (pos (min n 2048))) (omega arith) (omega arith)
+
+coefficient-in : (x : Float) → inRange (negsuc 2047) (pos 2047) (coefficientOf x) ≡ true
+unfolding coefficientOf
+coefficient-in x = clamped-in (negative x) (magnitude x)
+
+entry-in : (r : List ℤ) (v u : ℕ) → inRange (negsuc 2047) (pos 2047) (coefficient r v u) ≡ true
+unfolding coefficient
+entry-in r v u = coefficient-in (fdct1d (λ y. fdct1d (sample r y) u) v)
+
+pub coefficients-length : (r : List ℤ) → length (coefficients r) ≡ 64
+unfolding coefficients
+coefficients-length r = length-tabulate 64 (λ k. coefficient r (k / 8) (k % 8))
+
+pub coefficients-at : (r : List ℤ) (i : ℕ) → i < 64 → inRange (negsuc 2047) (pos 2047) (getD (coefficients r) i (pos 0)) ≡ true
+unfolding coefficients
+coefficients-at r i h = ap (inRange (negsuc 2047) (pos 2047)) (getD-tabulate 64 (λ k. coefficient r (k / 8) (k % 8)) i (pos 0) h) ∙ entry-in r (i / 8) (i % 8)
+
+pub coefficients-in : (r : List ℤ) → allInRange (negsuc 2047) (pos 2047) (coefficients r) ≡ true
+coefficients-in r = every-is (inRange (negsuc 2047) (pos 2047)) (coefficients r) (pos 0) (λ i h. coefficients-at r i (omega (arith, coefficients-length r)))
