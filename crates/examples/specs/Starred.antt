@@ -16,6 +16,7 @@ use Rattle.quantise.specs.Level.{levelOf, levelByWeight, inverseOf}
 use Rattle.scan.specs.Event.{eventsOf, lastsArea, runsArea, levelsArea}
 use Rattle.scan.specs.Grid.{gridOf, scanned}
 use Rattle.record.specs.declared.MotionVector.{MotionVector}
+use Rattle.coding.specs.Coding.{lumaPattern, chromaPattern}
 use Rattle.search.specs.Range.{low, high}
 use Rattle.search.specs.Sub.{start}
 use Rattle.search.specs.Estimate.{modeOf}
@@ -114,10 +115,16 @@ events =
     ∷ equalZ (getD (levelsArea scannedLevels) 1 (pos 9)) (negsuc 0)
     ∷ []
 
+-- blocks 0, 3, 5 coded: patterns 9 and 1
+unfoldable pub patterns : List Bool
+patterns =
+    let counts : List ℕ = 1 ∷ 0 ∷ 0 ∷ 1 ∷ 0 ∷ 1 ∷ [] in
+    eqb (lumaPattern counts) 9 ∷ eqb (chromaPattern counts) 1 ∷ []
+
 abbrev pub hold : List Bool → Bool
 hold [] = true
 hold (t ∷ ts) = t && hold ts
 
 -- all of it
 unfoldable pub starred : Bool
-starred = hold ranges && hold splits && hold averages && hold taps && hold reflections && hold levels && hold events
+starred = hold ranges && hold splits && hold averages && hold taps && hold reflections && hold levels && hold events && hold patterns

@@ -1,0 +1,36 @@
+-- The residual of a macroblock (`macroblock_residual`): source less the prediction coded against, in six blocks of 64.
+use Prim.Native.Nat.{ℕ}
+use mathlib.Core.Bool.{cond}
+use mathlib.Core.List.{List}
+use lib.Dec.{eqb, ltb}
+use lib.IntN.{ℤ, pos, _-ℤ_}
+use lib.ListN.{getD}
+use Rattle.basis.specs.Lists.{tabulate, rows}
+use Rattle.plane.specs.declared.SourceSize.{SourceSize}
+use Rattle.plane.specs.declared.MacroblockPlace.{MacroblockPlace}
+use Rattle.plane.specs.Source.{lumaBlock, chromaBlock, eightOf}
+
+-- samples of a macroblock: 16 x 16 of luma, 8 x 8 of Cb and of Cr, each by rows
+pub record Samples : Type 0 where
+  pub y : List ℕ
+  pub cb : List ℕ
+  pub cr : List ℕ
+
+abbrev pub samples : List ℕ → List ℕ → List ℕ → Samples
+samples y cb cr = record { y = y; cb = cb; cr = cr }
+
+-- block b of six: four luma, Cb, Cr
+abbrev pub samplesOf : Samples → ℕ → List ℕ
+samplesOf s b = cond (ltb b 4) (eightOf (s .y) b) (cond (eqb b 4) (s .cb) (s .cr))
+
+-- a block of source samples less a block of predicted ones
+abbrev pub blockResidual : List ℕ → List ℕ → List ℤ
+blockResidual source prediction = tabulate 64 (λ k. pos (getD source k 0) -ℤ pos (getD prediction k 0))
+
+-- all six
+unfoldable pub residualOf : Samples → Samples → List ℤ
+residualOf source prediction = rows 6 (λ b. blockResidual (samplesOf source b) (samplesOf prediction b))
+
+-- the macroblock's samples of the source, past the right or bottom the last column or row repeated
+abbrev pub sourceOf : List ℕ → List ℕ → List ℕ → SourceSize → MacroblockPlace → Samples
+sourceOf y cb cr size place = samples (lumaBlock y size place) (chromaBlock cb size place) (chromaBlock cr size place)

@@ -1,0 +1,26 @@
+-- The reader's 384 levels, in six blocks (four luma, Cb, Cr), and what they stand for (document 01, "The reader of demand 3").
+use Prim.Native.Nat.{ℕ}
+use mathlib.Core.Bool.{cond}
+use mathlib.Core.List.{List}
+use lib.IntN.{ℤ, pos}
+use lib.ListN.{getD, replicate}
+use Rattle.basis.specs.Lists.{tabulate, rows}
+use Rattle.record.specs.Pattern.{isCoded}
+use Rattle.scan.specs.Read.{readBlock}
+use Rattle.quantise.specs.Level.{inverseOf}
+use Rattle.reader.specs.Handed.{Handed, partsOf}
+
+-- block b's levels, by rows: 0 where its bit is clear; elsewhere `readBlock` counts from 0, and each event of the block's area, up to and
+-- with the one marked last, adds its run, puts its level at the scan place so counted and adds 1
+abbrev pub readPart : Handed → ℕ → List ℤ
+readPart h b =
+    let a = partsOf b (h .areas) in
+    cond (isCoded (h .coded) b) (readBlock (h .scan) (a .lasts) (a .runs) (a .levels)) (replicate 64 (pos 0))
+
+-- all 384
+unfoldable pub readLevels : Handed → List ℤ
+readLevels h = rows 6 (readPart h)
+
+-- each through the inverse of the second method
+unfoldable pub readInverse : Handed → List ℤ
+readInverse h = tabulate 384 (λ i. inverseOf (h .quantiser) (getD (readLevels h) i (pos 0)))
