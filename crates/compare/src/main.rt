@@ -1,5 +1,7 @@
 // Worked examples that are run and not proved: document 01's without a star, each with what it should give.
 use libc::STDOUT_FILENO;
+use plane::MacroblockPlace;
+use plane::SourceSize;
 
 // Whether every coefficient from place k on is 0.
 fn zeros_from(coefficients: &[i32], from: usize) -> bool {
@@ -21,6 +23,19 @@ fn all_ones() -> bool {
     refusal::both(out[0] == 8, zeros_from(&out, 1))
 }
 
+// One 255 among zeros: activity 255.
+fn one_among_zeros() -> bool {
+    let mut luma = [0u8; 256];
+    luma[100] = 255;
+    let size = SourceSize {
+        width: 16,
+        height: 16,
+    };
+    let place = MacroblockPlace { column: 0, row: 0 };
+    let found = macroblock::intra_activity(&luma, size, place);
+    found.sum == 255
+}
+
 fn report(right: bool, name: &[u8]) {
     io::write_all(STDOUT_FILENO, name);
     if right {
@@ -32,4 +47,5 @@ fn report(right: bool, name: &[u8]) {
 
 fn main() {
     report(all_ones(), b"residual all 1, first coefficient 8, others 0");
+    report(one_among_zeros(), b"one 255 among zeros, activity 255");
 }

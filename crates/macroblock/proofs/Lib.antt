@@ -1,0 +1,4 @@
+mod Accepted
+mod Answers
+mod Sums
+pub mod Demanded

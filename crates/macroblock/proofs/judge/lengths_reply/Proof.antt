@@ -1,0 +1,43 @@
+-- `macroblock::judge::lengths_reply` meets its contract. Assumes nothing.
+use Rattle.macroblock.specs.Request.{lengthsReply}
+use borrow.Author.Needs.{needs}
+use Rattle.macroblock.proofs.judge.lengths_reply.Statement.{statement}
+use Rattle.macroblock.proofs.judge.lengths_reply.Tie as tie
+
+both-requires : tie.Need-both-requires
+both-requires c κs = search needs
+
+both-requires-2 : tie.Need-both-requires-2
+both-requires-2 c κs = search needs
+
+both-requires-3 : tie.Need-both-requires-3
+both-requires-3 c κs = search needs
+
+both-requires-4 : tie.Need-both-requires-4
+both-requires-4 c κs = search needs
+
+both-requires-5 : tie.Need-both-requires-5
+both-requires-5 c κs = search needs
+
+both-requires-6 : tie.Need-both-requires-6
+both-requires-6 c κs = search needs
+
+unless-requires : tie.Need-unless-requires
+unless-requires c κs = search needs
+
+returns : tie.Need-returns
+unfolding lengthsReply
+returns c = cc
+
+pub lengths-reply-spec : {M : Type 1} → statement M
+lengths-reply-spec =
+    tie.close
+    (tie.spec
+    both-requires
+    both-requires-2
+    both-requires-3
+    both-requires-4
+    both-requires-5
+    both-requires-6
+    unless-requires
+    returns)

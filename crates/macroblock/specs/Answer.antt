@@ -1,0 +1,70 @@
+-- What the entry that searches and codes answers (document 01, "Added, not in the Rust"), for every request.
+use Prim.Native.Nat.{ℕ}
+use mathlib.Core.Bool.{cond}
+use mathlib.Core.List.{List}
+use lib.Dec.{eqb}
+use lib.IntN.{ℤ}
+use lib.ListN.{replicate}
+use Rattle.refusal.specs.declared.Reply.the-variants.{Done}
+use Rattle.refusal.specs.Reply.{done}
+use Rattle.record.specs.declared.MotionVector.{MotionVector}
+use Rattle.record.specs.declared.Record.{Record}
+use Rattle.record.specs.Zero.{zeroVector, noRecord}
+use Rattle.search.specs.declared.Scored.{Scored}
+use Rattle.search.specs.declared.EstimatedFour.{EstimatedFour}
+use Rattle.search.specs.Sums.{Block}
+use Rattle.search.specs.Estimate.{modeOf, oneVector, fourVectors}
+use Rattle.reader.specs.Handed.{Areas, areas}
+use Rattle.coding.specs.Coding.{areasOf, countsOf, lumaPattern, chromaPattern}
+use Rattle.macroblock.specs.declared.Coded.{Coded}
+use Rattle.macroblock.specs.declared.Searched.{Searched}
+use Rattle.macroblock.specs.declared.Settings.{Settings}
+use Rattle.macroblock.specs.Request.{Request, residual, blockIn, quantisingIn, replyOf}
+
+-- the one vector and its sum
+abbrev pub oneOf : Settings → Block → Scored
+oneOf s b = oneVector (modeOf (s .mode) (s .bpp)) (s .fcode) b
+
+-- the four and their sums, seeded by the one
+abbrev pub fourOf : Settings → Block → EstimatedFour
+fourOf s b = fourVectors (modeOf (s .mode) (s .bpp)) (s .fcode) (oneOf s b .vector) b
+
+-- without a four-vector search the four and their sums are 0
+unfoldable pub searchedOf : Settings → Block → Searched
+searchedOf s b =
+    record {
+      vector = oneOf s b .vector;
+      sum = oneOf s b .cost;
+      vectors = cond (eqb (s .vectors) 4) (fourOf s b .vectors) (replicate 4 zeroVector);
+      sums = cond (eqb (s .vectors) 4) (fourOf s b .sums) (replicate 4 0);
+    }
+
+unfoldable pub recordOf : Request → Record
+recordOf q =
+    let found = searchedOf (q .settings) (blockIn q) in
+    let counts = countsOf (quantisingIn q) (residual q) in
+    record {
+      vector = found .vector;
+      sum = found .sum;
+      vectors = found .vectors;
+      sums = found .sums;
+      «luma_pattern» = lumaPattern counts;
+      «chroma_pattern» = chromaPattern counts;
+      counts = counts;
+    }
+
+-- what a call gives back: its value, and what the three areas then hold
+pub record Answer : Type 0 where
+  pub coded : Coded
+  pub areas : Areas
+
+abbrev pub answered : Coded → List ℕ → List ℕ → List ℤ → Answer
+answered coded lasts runs levels = record { coded = coded; areas = areas lasts runs levels }
+
+-- refused, the record is all 0 and the areas are as they were
+unfoldable pub answerOf : Request → Answer
+answerOf q =
+    record {
+      coded = record { reply = replyOf q; «record» = done (replyOf q) (recordOf q) noRecord };
+      areas = done (replyOf q) (areasOf (quantisingIn q) (residual q)) (q .areas);
+    }

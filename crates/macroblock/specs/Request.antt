@@ -1,0 +1,124 @@
+-- A call's arguments as one value, and what turns it back, in the order of document 01's list: 1 2 3 4 5 6 7 8 10 11 12 14.
+use Prim.Native.Nat.{ℕ}
+use mathlib.Core.Bool.{_&&_, _||_}
+use mathlib.Core.List.{List}
+use lib.Dec.{eqb}
+use lib.IntN.{ℤ}
+use lib.ListN.{length}
+use Rattle.refusal.specs.declared.Refusal.the-variants.{Length, Choice}
+use Rattle.refusal.specs.declared.Reply.{Reply}
+use Rattle.refusal.specs.declared.Reply.the-variants.{Done}
+use Rattle.refusal.specs.Reply.{unless, andThen}
+use Rattle.refusal.specs.Test.{between}
+use Rattle.plane.specs.declared.Geometry.{Geometry}
+use Rattle.plane.specs.declared.SourceSize.{SourceSize}
+use Rattle.plane.specs.declared.MacroblockPlace.{MacroblockPlace}
+use Rattle.plane.specs.Plane.{planeOf}
+use Rattle.plane.specs.Reference.{referenceReply}
+use Rattle.plane.specs.Source.{sourceReply}
+use Rattle.prediction.specs.declared.BVopSampleMode.{BVopSampleMode}
+use Rattle.quantise.specs.Block.{weightReply}
+use Rattle.search.specs.Sums.{Block}
+use Rattle.search.specs.Estimate.{modeOf, macroblock, settingsReply}
+use Rattle.reader.specs.Handed.{Areas, areas}
+use Rattle.coding.specs.Residual.{Samples, samples, sourceOf, residualOf}
+use Rattle.coding.specs.Coding.{Quantising, quantisingOf}
+use Rattle.macroblock.specs.declared.Settings.{Settings}
+use Rattle.macroblock.specs.declared.Lengths.{Lengths}
+
+pub record Request : Type 0 where
+  pub settings : Settings
+  pub reference : List ℕ
+  pub geometry : Geometry
+  -- the source's planes
+  pub y : List ℕ
+  pub cb : List ℕ
+  pub cr : List ℕ
+  pub size : SourceSize
+  pub place : MacroblockPlace
+  pub weights : List ℕ
+  -- the lent prediction
+  pub prediction : Samples
+  -- the lent areas, as they are when the call begins
+  pub areas : Areas
+
+-- in the order of the entry's parameters
+abbrev pub request : Settings → List ℕ → Geometry → List ℕ → List ℕ → List ℕ → SourceSize → MacroblockPlace
+    → List ℕ → List ℕ → List ℕ → List ℕ → List ℕ → List ℕ → List ℤ → Request
+request settings reference geometry y cb cr size place weights py pcb pcr lasts runs levels =
+    record {
+      settings = settings;
+      reference = reference;
+      geometry = geometry;
+      y = y;
+      cb = cb;
+      cr = cr;
+      size = size;
+      place = place;
+      weights = weights;
+      prediction = samples py pcb pcr;
+      areas = areas lasts runs levels;
+    }
+
+-- ---- what a request speaks of
+
+-- the macroblock's samples of the source, and their residual: less the lent prediction
+abbrev pub source : Request → Samples
+source q = sourceOf (q .y) (q .cb) (q .cr) (q .size) (q .place)
+
+abbrev pub residual : Request → List ℤ
+residual q = residualOf (source q) (q .prediction)
+
+-- the mode, and the block that is searched for
+abbrev pub modeIn : Request → BVopSampleMode
+modeIn q = modeOf (q .settings .mode) (q .settings .bpp)
+
+abbrev pub blockIn : Request → Block
+blockIn q = macroblock (q .y) (q .size) (q .place) (planeOf (q .reference) (q .geometry))
+
+-- what levels and events are made by
+abbrev pub quantisingIn : Request → Quantising
+quantisingIn q = quantisingOf (q .settings .quantiser) (q .settings .«first_method») (q .weights) (q .settings .scan)
+
+-- ---- refusals
+
+-- 12: prediction not 256, 64, 64; matrix not 64, under either method; an area not 64 per block
+unfoldable pub lengthsReply : Lengths → Reply
+lengthsReply n =
+    unless
+    ((eqb (n .«pred_y») 256 && (eqb (n .«pred_cb») 64 && eqb (n .«pred_cr») 64)) && (eqb (n .weights) 64 && (eqb (n .lasts) 384 && (eqb (n .runs) 384 && eqb (n .levels) 384))))
+    Length
+    Done
+
+-- 14: vector count not 1 or 4; scan number not 0..2
+unfoldable pub choiceReply : ℕ → ℕ → Reply
+choiceReply vectors scan = unless ((eqb vectors 1 || eqb vectors 4) && between 0 2 scan) Choice Done
+
+-- the whole list
+unfoldable pub requestReply : Settings → Geometry → SourceSize → MacroblockPlace → List ℕ → Lengths → Reply
+requestReply s geometry size place weights n =
+    andThen (settingsReply (s .fcode) (s .mode) (s .bpp))
+    (andThen (referenceReply geometry (n .reference))
+    (andThen (sourceReply size (n .y) (n .cb) (n .cr) place)
+    (andThen (weightReply (s .quantiser) (s .«first_method») weights)
+    (andThen (lengthsReply n)
+    (choiceReply (s .vectors) (s .scan))))))
+
+abbrev pub lengthsOf : Request → Lengths
+lengthsOf q =
+    record {
+      reference = length (q .reference);
+      y = length (q .y);
+      cb = length (q .cb);
+      cr = length (q .cr);
+      weights = length (q .weights);
+      «pred_y» = length (q .prediction .y);
+      «pred_cb» = length (q .prediction .cb);
+      «pred_cr» = length (q .prediction .cr);
+      lasts = length (q .areas .lasts);
+      runs = length (q .areas .runs);
+      levels = length (q .areas .levels);
+    }
+
+abbrev pub replyOf : Request → Reply
+replyOf q = requestReply (q .settings) (q .geometry) (q .size) (q .place) (q .weights) (lengthsOf q)
