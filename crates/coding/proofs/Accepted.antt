@@ -14,7 +14,7 @@ use Rattle.refusal.specs.declared.Reply.{Reply}
 use Rattle.refusal.specs.declared.Reply.the-variants.{Done}
 use Rattle.refusal.specs.Reply.{unless, andThen}
 use Rattle.refusal.specs.Test.{between, inRange, allInRange}
-use Rattle.refusal.proofs.Every.{every-at, every-is}
+use Rattle.refusal.proofs.Every.{every-at, all-in-range}
 use Rattle.refusal.proofs.Replies.{first-done, then-done, held, after, passed, both-done}
 use Rattle.refusal.proofs.Tests.{and-left, and-right}
 use Rattle.plane.specs.declared.SourceSize.{SourceSize}
@@ -94,9 +94,8 @@ pub coding-ready : (n : ℕ) (residual : List ℤ) (h : Quantising) (lasts runs 
     → CodingAccepted n residual h lasts runs levels → codingReply n residual h lasts runs levels ≡ Done
 unfolding codingReply
 coding-ready n residual h lasts runs levels c =
-    let long = c .long in
     both-done (c .quantisable .weighed)
     (passed ((eqb (length residual) n && eqb (length (h .weights)) 64) && (eqb lasts n && (eqb runs n && eqb levels n))) Length
     (both (both (eq-eqb _ n (c .long)) (eq-eqb _ 64 (c .quantisable .long))) (both (eq-eqb _ n (c .lasts-long)) (both (eq-eqb _ n (c .runs-long)) (eq-eqb _ n (c .levels-long)))))
-    (passed (allInRange (negsuc 254) (pos 255) residual) Range (every-is (inRange (negsuc 254) (pos 255)) residual (pos 0) (λ i l. c .small .at i (omega arith)))
+    (passed (allInRange (negsuc 254) (pos 255) residual) Range (all-in-range (negsuc 254) (pos 255) n residual (c .long) (c .small .at))
     (passed (between 0 2 (h .scan)) Choice (c .quantisable .known) refl)))

@@ -38,8 +38,8 @@ module _ (s p : Samples) (b : ℕ) where
 abbrev pub residualAt : Samples → Samples → ℕ → List ℤ
 residualAt s p b = blockResidual (samplesOf s b) (samplesOf p b)
 
-pub all-in-range : (r : ℕ → List ℤ) → ((b : ℕ) → length (r b) ≡ 64) → ((b : ℕ) → b < 6 → ResidualRange 64 (r b)) → ResidualRange 384 (rows 6 r)
-all-in-range r len small =
+pub six-in-range : (r : ℕ → List ℤ) → ((b : ℕ) → length (r b) ≡ 64) → ((b : ℕ) → b < 6 → ResidualRange 64 (r b)) → ResidualRange 384 (rows 6 r)
+six-in-range r len small =
     record {
       at = λ i h.
           ap (λ (n : ℕ). inRange (negsuc 254) (pos 255) (getD (rows 6 r) n (pos 0))) (whole i)

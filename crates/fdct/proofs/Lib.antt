@@ -6,3 +6,4 @@ mod Signs
 mod Whole
 -- And what the crates above cite.
 pub mod Ranges
+pub mod Ready

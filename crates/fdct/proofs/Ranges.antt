@@ -10,7 +10,7 @@ use lib.ListN.{length, getD}
 use Rattle.basis.proofs.Lists.{length-tabulate, getD-tabulate}
 use Rattle.basis.proofs.Parts.{above-neg, below-neg}
 use Rattle.refusal.specs.Test.{inRange, allInRange}
-use Rattle.refusal.proofs.Every.{every-is}
+use Rattle.refusal.proofs.Every.{all-in-range}
 use Rattle.refusal.proofs.Tests.{range-is}
 use Rattle.fdct.specs.Block.{sample, coefficient, coefficients}
 use Rattle.fdct.specs.Line.{fdct1d}
@@ -40,4 +40,4 @@ unfolding coefficients
 coefficients-at r i h = ap (inRange (negsuc 2047) (pos 2047)) (getD-tabulate 64 (λ k. coefficient r (k / 8) (k % 8)) i (pos 0) h) ∙ entry-in r (i / 8) (i % 8)
 
 pub coefficients-in : (r : List ℤ) → allInRange (negsuc 2047) (pos 2047) (coefficients r) ≡ true
-coefficients-in r = every-is (inRange (negsuc 2047) (pos 2047)) (coefficients r) (pos 0) (λ i h. coefficients-at r i (omega (arith, coefficients-length r)))
+coefficients-in r = all-in-range (negsuc 2047) (pos 2047) 64 (coefficients r) (coefficients-length r) (coefficients-at r)

@@ -1,19 +1,20 @@
--- What holds of a call that is not turned back. Assumes nothing.
+-- What holds of a call that is not turned back, and back. Assumes nothing.
 use Prim.Native.Nat.{ℕ, _≤_, _<_}
 use native.Mathlib.Omega.{arith}
 use mathlib.Core.Bool.{Bool, true, false, not, _&&_, _||_}
 use mathlib.Core.List.{List}
-use mathlib.Core.Path.{_≡_, sym, ap, _∙_}
+use mathlib.Core.Path.{_≡_, refl, sym, ap, _∙_}
 use lib.Dec.{eqb}
 use lib.IntN.{ℤ, pos, negsuc, natAbs}
 use lib.ListN.{length, getD}
 use borrow.Author.Tests.{eqb-true, eq-eqb}
+use Rattle.basis.proofs.Case.{both}
 use Rattle.refusal.specs.declared.Refusal.the-variants.{Quantiser, Weight, Length, Range}
 use Rattle.refusal.specs.declared.Reply.the-variants.{Done}
 use Rattle.refusal.specs.Reply.{unless}
 use Rattle.refusal.specs.Test.{between, inRange, allInRange}
 use Rattle.refusal.proofs.Every.{every-at}
-use Rattle.refusal.proofs.Replies.{first-done, then-done, held, after}
+use Rattle.refusal.proofs.Replies.{first-done, then-done, held, after, passed, both-done}
 use Rattle.refusal.proofs.Tests.{and-left, and-right, between-low, between-high}
 use Rattle.quantise.specs.Block.{noZero, weightReply, quantiseReply, inverseReply}
 use Rattle.quantise.proofs.Signs.{size-in}
@@ -89,6 +90,16 @@ module _ (fs : List ℤ) (q : ℕ) (first : Bool) (weights : List ℕ) (n : ℕ)
   weight-some t i h =
       not-zero _
       (every-at (λ (w : ℕ). not (eqb w 0)) weights i 0 (sym (ap (λ (b : Bool). not b || noZero weights) t) ∙ weights-serve q first weights weighed) (omega (arith, sound .weights-long)))
+
+-- 64 coefficients in range are not turned back where quantiser and weights are not
+pub quantise-ready : (fs : List ℤ) (q : ℕ) (first : Bool) (weights : List ℕ) → weightReply q first weights ≡ Done
+    → length fs ≡ 64 → length weights ≡ 64 → allInRange (negsuc 2047) (pos 2047) fs ≡ true → quantiseReply fs q first weights 64 ≡ Done
+unfolding quantiseReply
+quantise-ready fs q first weights w long weights-long small =
+    both-done w
+    (passed (eqb (length fs) 64 && (eqb (length weights) 64 && eqb 64 64)) Length
+    (both (eq-eqb _ 64 long) (both (eq-eqb _ 64 weights-long) refl))
+    (passed (allInRange (negsuc 2047) (pos 2047) fs) Range small refl))
 
 pub record SoundInverse (levels : List ℤ) (q n : ℕ) : Type 0 where
   pub low : 1 ≤ q

@@ -5,10 +5,11 @@ use native.Mathlib.Omega.{arith}
 use mathlib.Core.Bool.{Bool, true, false, _&&_}
 use mathlib.Core.List.{List, [], _∷_}
 use mathlib.Core.Path.{_≡_, refl, sym, ap, _∙_}
+use lib.IntN.{ℤ, pos}
 use lib.ListN.{length, getD, drop, drop-of-length-le}
 use lib.Seq.{drop-cons}
 use Rattle.basis.proofs.Case.{both}
-use Rattle.refusal.specs.Test.{every}
+use Rattle.refusal.specs.Test.{every, inRange, allInRange}
 use Rattle.refusal.proofs.Tests.{and-left, and-right}
 
 and-assoc : (a b c : Bool) → ((a && b) && c) ≡ (a && (b && c))
@@ -42,3 +43,7 @@ module _ {A : Type 0} (p : A → Bool) where
   pub every-is : (l : List A) (d : A) → ((i : ℕ) → i < length l → p (getD l i d) ≡ true) → every p l ≡ true
   every-is [] d h = refl
   every-is (x ∷ l) d h = both (h 0 (omega arith)) (every-is l d (λ i b. h (suc i) (omega arith)))
+
+-- n numbers are in a range where each is
+pub all-in-range : (low high : ℤ) (n : ℕ) (l : List ℤ) → length l ≡ n → ((i : ℕ) → i < n → inRange low high (getD l i (pos 0)) ≡ true) → allInRange low high l ≡ true
+all-in-range low high n l e h = every-is (inRange low high) l (pos 0) (λ i b. h i (omega arith))

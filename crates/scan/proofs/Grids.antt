@@ -98,6 +98,14 @@ pub length-scanned : (g : List (List ℕ)) (levels : List ℤ) → length (scann
 unfolding scanned
 length-scanned g levels = length-tabulate 64 (λ k. getD levels (placeOf g k) (pos 0))
 
+-- what holds of each of 64 levels holds of each in scan order
+pub scanned-each : (s : ℕ) (levels : List ℤ) (p : ℤ → Bool) → ((i : ℕ) → i < 64 → p (getD levels i (pos 0)) ≡ true)
+    → (k : ℕ) → k < 64 → p (getD (scanned (gridOf s) levels) k (pos 0)) ≡ true
+unfolding scanned
+scanned-each s levels p each k h =
+    let g = gridOf s in
+    ap p (getD-tabulate 64 (λ k. getD levels (placeOf g k) (pos 0)) k (pos 0) h) ∙ each (placeOf g k) (permutes s .place-below k h)
+
 -- scan and inverse scan undo each other
 pub returns : (s : ℕ) → Returns s
 unfolding scanned unscanned

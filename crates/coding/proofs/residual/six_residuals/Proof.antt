@@ -11,7 +11,7 @@ use Rattle.basis.proofs.Lists.{laid, laid-none, laid-put, laid-end}
 use Rattle.basis.specs.Lists.{rows}
 use Rattle.coding.specs.Residual.{Samples, samples, samplesOf, residualOf}
 use Rattle.coding.specs.Told.{ResidualRange}
-use Rattle.coding.proofs.SixBlocks.{residualAt, block-length, all-in-range}
+use Rattle.coding.proofs.SixBlocks.{residualAt, block-length, six-in-range}
 use Rattle.coding.proofs.residual.six_residuals.Statement.{statement}
 use Rattle.coding.proofs.residual.six_residuals.Tie as tie
 
@@ -91,7 +91,7 @@ returns c =
     let r = rowOf s in
     let six : l .loop .b ≡ 6 = omega arith in
     let e : l .loop .out ≡ rows 6 r = laid-end 64 r (row-length s) 6 (l .loop .b) (s .args .out .now) (l .loop .out) (l .loop .inv .3) six (l .loop .inv .1) in
-    (e, subst (ResidualRange 384) (sym e) (all-in-range r (row-length s) (λ b h. l .loop .inv .4 b (omega arith))))
+    (e, subst (ResidualRange 384) (sym e) (six-in-range r (row-length s) (λ b h. l .loop .inv .4 b (omega arith))))
 
 pub six-residuals-spec : {M : Type 1} → statement M
 six-residuals-spec =
