@@ -1,4 +1,27 @@
-/* Parts of an MPEG-4 Visual coder (ISO/IEC 14496-2): the static library libhencouch.a. */
+/*
+ * Parts of an MPEG-4 Visual coder (ISO/IEC 14496-2): the static library libhencouch.a, for x86-64.
+ *
+ * What holds of every function here:
+ *
+ * Replies. It returns 0 when its work is done. Otherwise it returns the number of a refusal, of
+ * those that apply the first in its list, and nothing that was lent to it is changed.
+ *
+ * Lengths. x_len is the number of elements that x points to. A pointer with no length is to one
+ * element (count, activity), or to as many as are declared (counts[6]): that number is not handed
+ * over and not checked, so the memory has to be there. Such a pointer is never NULL.
+ *
+ * NULL. Where x_len is 0, nothing is read or written through x. So x may be NULL, and is refused
+ * for its length like any other area that is too short.
+ *
+ * Overlap. What a function writes overlaps nothing else that is lent to the same call: a scan in
+ * place, for instance, with out the same as levels, gives wrong levels. Areas that are only read
+ * may overlap each other.
+ *
+ * Threads. There is no state between calls. Calls may run at once as long as none writes to what
+ * another reads or writes.
+ *
+ * Memory. No heap, and at most 64 KiB of stack (measured: below 40).
+ */
 #ifndef HENCOUCH_H
 #define HENCOUCH_H
 
@@ -16,15 +39,12 @@ extern "C" {
  * The reference plane is samples[0..samples_len), rows stride apart; coordinates outside it are
  * clamped into it. The vector is in half samples. Only the low bit of rounding counts.
  *
- * Returns 0 when the block is written. Otherwise nothing is written, and the number is the first
- * that applies:
+ * Refused:
  *    4  width or height not 1..4096, or stride not width..8192
  *    5  samples_len not above (height - 1) * stride + width - 1
  *    8  origin_x or origin_y outside -4096..4096, or mv_x or mv_y outside -2048..2047
  *   12  out_len not block_w * block_h
  *   14  block_w or block_h neither 8 nor 16
- *
- * samples points to samples_len bytes and out to out_len bytes that do not overlap.
  */
 uint8_t hencouch_interpolate_block_into(
     const uint8_t *samples, size_t samples_len, size_t width, size_t height, size_t stride,
@@ -37,7 +57,7 @@ uint8_t hencouch_interpolate_block_into(
  * interpolated samples are cut to 0..2^bits_per_pixel - 1. Samples of the reference above that are
  * legal, and a vector of whole samples returns them as they are.
  *
- * Returns 0, or the first number that applies:
+ * Refused:
  *    3  bits_per_pixel not 1..8
  *    4, 5, 8, 12, 14  as above
  */
@@ -51,7 +71,7 @@ uint8_t hencouch_interpolate_block_qpel_into(
  * The 8 x 8 forward transform of 64 residuals, eight to a row, at 8 bits: doubles, rows, then
  * columns; coefficients rounded to nearest, halves away from zero, cut to -2048..2047.
  *
- * Returns 0, or the first number that applies:
+ * Refused:
  *   12  residual_len or out_len not 64
  *   13  a residual outside -255..255
  */
@@ -62,7 +82,7 @@ uint8_t hencouch_forward_dct_8x8(
  * The levels of 64 transform coefficients: by the second method, or by the first where
  * first_method is not 0. weights is the matrix of the first method; its length counts under both.
  *
- * Returns 0, or the first number that applies:
+ * Refused:
  *   10  quantiser not 1..31
  *   11  first method, a zero weight
  *   12  coefficients_len, weights_len or out_len not 64
@@ -75,7 +95,10 @@ uint8_t hencouch_quantise_block(
 /*
  * What 64 levels stand for under the second method.
  *
- * Returns 0, or 10, 12 (levels_len or out_len not 64), 13 (a level outside -2047..2047).
+ * Refused:
+ *   10  quantiser not 1..31
+ *   12  levels_len or out_len not 64
+ *   13  a level outside -2047..2047
  */
 uint8_t hencouch_inverse_block(
     const int32_t *levels, size_t levels_len, uint32_t quantiser, int32_t *out, size_t out_len);
@@ -84,8 +107,9 @@ uint8_t hencouch_inverse_block(
  * 64 levels, eight to a row, put into scan order, and back. scan: 0 alternate horizontal,
  * 1 alternate vertical, 2 zigzag.
  *
- * Each returns 0, or 12 (levels_len or out_len not 64), 13 (a level outside -2047..2047),
- * 14 (scan not 0..2).
+ * Refused:
+ *   12, 13  as above
+ *   14  scan not 0..2
  */
 uint8_t hencouch_forward_scan(
     const int32_t *levels, size_t levels_len, uint32_t scan, int32_t *out, size_t out_len);
@@ -96,7 +120,9 @@ uint8_t hencouch_inverse_scan(
  * The events of 64 levels in scan order: lasts 1 for the last event and 0 for any other, runs of
  * zeros, non-zero levels, each area 64 long and 0 after the events. Their number goes to *count.
  *
- * Returns 0, or 12 (a length not 64), 13 (a level outside -2047..2047); then *count stays as it is.
+ * Refused:
+ *   12  a length not 64
+ *   13  a level outside -2047..2047
  */
 uint8_t hencouch_levels_to_events(
     const int32_t *levels, size_t levels_len, uint8_t *lasts, size_t lasts_len,
@@ -109,8 +135,7 @@ uint8_t hencouch_levels_to_events(
  * samples; bits_per_pixel counts in mode 1 only. The vector, in half or quarter samples, horizontal
  * then vertical, goes to vector, and its sum of absolute differences to sum[0].
  *
- * Returns 0 when both are written. Otherwise nothing is written, and the number is the first that
- * applies:
+ * Refused:
  *    1  fcode not 1..7
  *    2  mode neither 0 nor 1
  *    3  mode 1, bits_per_pixel not 1..8
@@ -120,8 +145,6 @@ uint8_t hencouch_levels_to_events(
  *    7  source_len below width * height
  *    8  column or row at or above width or height over 16, rounded up
  *   12  vector_len not 2 or sum_len not 1
- *
- * vector and sum overlap neither each other nor source or reference.
  */
 uint8_t hencouch_estimate_motion(
     const uint8_t *source, size_t source_len, size_t width, size_t height,
@@ -136,7 +159,7 @@ uint8_t hencouch_estimate_motion(
  * seed in half or quarter samples. Each vector's horizontal, then vertical, goes to vectors, and
  * the four sums go to sums.
  *
- * Returns 0, or the first number that applies:
+ * Refused:
  *    1, 2, 3, 4, 5, 6, 7, 8  as above
  *    9  seed_x or seed_y outside -32F..32F - 1, F being 2^(fcode - 1)
  *   12  vectors_len not 8 or sums_len not 4
@@ -148,6 +171,99 @@ uint8_t hencouch_estimate_motion_4mv(
     size_t ref_width, size_t ref_height, size_t stride,
     uint32_t mode, uint32_t bits_per_pixel, uint32_t fcode, int32_t seed_x, int32_t seed_y,
     int32_t *vectors, size_t vectors_len, uint32_t *sums, size_t sums_len);
+
+/*
+ * How far the luma of the macroblock at column and row lies from its mean: the sum of its 256
+ * samples' distances from it, the mean's fraction dropped. The source is as above.
+ *
+ * Refused:
+ *    6, 7, 8  as above
+ */
+uint8_t hencouch_intra_activity(
+    const uint8_t *source, size_t source_len, size_t width, size_t height,
+    size_t column, size_t row, uint32_t *activity);
+
+/*
+ * The residual of the macroblock at column and row: source less prediction, in six blocks of 64,
+ * eight to a row: luma 0 and 1 above 2 and 3, Cb, Cr. The source is width x height luma samples and
+ * half as many, rounded up, each way of Cb and Cr, row by row; coordinates outside are clamped into
+ * it. The prediction is 16 x 16 luma samples and 8 x 8 of Cb and Cr, row by row.
+ *
+ * Refused:
+ *    6  width or height not 1..4096
+ *    7  y_len, cb_len or cr_len below the samples of its plane
+ *    8  column or row at or above width or height over 16, rounded up
+ *   12  pred_y_len not 256, pred_cb_len or pred_cr_len not 64, or out_len not 384
+ */
+uint8_t hencouch_macroblock_residual(
+    const uint8_t *y, size_t y_len, const uint8_t *cb, size_t cb_len,
+    const uint8_t *cr, size_t cr_len, size_t width, size_t height, size_t column, size_t row,
+    const uint8_t *pred_y, size_t pred_y_len, const uint8_t *pred_cb, size_t pred_cb_len,
+    const uint8_t *pred_cr, size_t pred_cr_len, int32_t *out, size_t out_len);
+
+/*
+ * The events of a block's 64 residuals, eight to a row: transformed, quantised (by the first method
+ * where first_method is not 0), put into scan order, and written as hencouch_levels_to_events does.
+ *
+ * Refused:
+ *   10  quantiser not 1..31
+ *   11  first method, a zero weight
+ *   12  a length not 64, that of weights under either method
+ *   13  a residual outside -255..255
+ *   14  scan not 0..2
+ */
+uint8_t hencouch_quantise_inter_block(
+    const int32_t *residual, size_t residual_len, uint32_t quantiser, uint8_t first_method,
+    const uint8_t *weights, size_t weights_len, uint32_t scan, uint8_t *lasts, size_t lasts_len,
+    uint8_t *runs, size_t runs_len, int32_t *levels, size_t levels_len, uint8_t *count);
+
+/*
+ * The same for the six blocks of a macroblock's residual: block b has 64 b to 64 b + 63 of each
+ * area, and counts[b] events.
+ *
+ * Refused:
+ *   10, 11, 13, 14  as above
+ *   12  weights_len not 64, or another length not 384
+ */
+uint8_t hencouch_quantise_inter_residual(
+    const int32_t *residual, size_t residual_len, uint32_t quantiser, uint8_t first_method,
+    const uint8_t *weights, size_t weights_len, uint32_t scan, uint8_t *lasts, size_t lasts_len,
+    uint8_t *runs, size_t runs_len, int32_t *levels, size_t levels_len, uint8_t counts[6]);
+
+/*
+ * Which of six blocks have an event. patterns[0] is luma's: block 0 worth 8, block 3 worth 1;
+ * patterns[1] is chroma's: Cb worth 2, Cr worth 1. Never refused.
+ */
+uint8_t hencouch_inter_cbp(const uint8_t counts[6], uint8_t patterns[2]);
+
+/*
+ * Searches for the macroblock at column and row and codes its residual; the arguments are as above.
+ * Written are its vector and sum; the four blocks' vectors and sums, seeded by the one, where
+ * vectors is 4, and 0 where it is 1; luma's and chroma's patterns; the six blocks' events and
+ * counts. The residual is taken against the lent prediction, whatever the vectors are.
+ *
+ * Refused:
+ *    1, 2, 3, 4, 5  as for hencouch_estimate_motion
+ *    6, 7, 8  as for hencouch_macroblock_residual
+ *   10, 11  as for hencouch_quantise_inter_block
+ *   12  pred_y_len not 256; pred_cb_len, pred_cr_len or weights_len not 64; lasts_len, runs_len or
+ *       levels_len not 384
+ *   14  vectors neither 1 nor 4, or scan not 0..2
+ */
+uint8_t hencouch_code_macroblock(
+    uint32_t fcode, uint32_t mode, uint32_t bits_per_pixel, uint32_t quantiser,
+    uint8_t first_method, uint32_t vectors, uint32_t scan,
+    const uint8_t *reference, size_t reference_len,
+    size_t ref_width, size_t ref_height, size_t stride,
+    const uint8_t *y, size_t y_len, const uint8_t *cb, size_t cb_len,
+    const uint8_t *cr, size_t cr_len, size_t width, size_t height, size_t column, size_t row,
+    const uint8_t *weights, size_t weights_len,
+    const uint8_t *pred_y, size_t pred_y_len, const uint8_t *pred_cb, size_t pred_cb_len,
+    const uint8_t *pred_cr, size_t pred_cr_len,
+    uint8_t *lasts, size_t lasts_len, uint8_t *runs, size_t runs_len,
+    int32_t *levels, size_t levels_len,
+    int32_t vector[2], uint32_t *sum, int32_t four_vectors[8], uint32_t four_sums[4],
+    uint8_t patterns[2], uint8_t counts[6]);
 
 #ifdef __cplusplus
 }

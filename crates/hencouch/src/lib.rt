@@ -1,5 +1,7 @@
 // The entries for C and Rust: numbers and slices only, a slice as a pointer and a length. Each answers 0, or the refusal's number.
+pub mod inter;
 pub mod levels;
 pub mod motion;
 pub mod sample;
 pub mod transform;
+pub mod whole;

@@ -1,0 +1,16 @@
+-- `hencouch::inter::hencouch_inter_cbp` meets its contract. Assumes nothing.
+use mathlib.Core.List.{[], _∷_}
+use mathlib.Core.Path.{refl, ap}
+use Rattle.coding.specs.declared.Patterns.{Patterns}
+use borrow.Author.Needs.{needs}
+use Rattle.hencouch.proofs.inter.hencouch_inter_cbp.Statement.{statement}
+use Rattle.hencouch.proofs.inter.hencouch_inter_cbp.Tie as tie
+
+inter-cbp-requires : tie.Need-inter-cbp-requires
+inter-cbp-requires c κs = search needs
+
+returns : tie.Need-returns
+returns c = (refl, ap (λ (t : Patterns). t .luma ∷ t .chroma ∷ []) (c .before .inter-cbp .ensures))
+
+pub hencouch-inter-cbp-spec : {M : Type 1} → statement M
+hencouch-inter-cbp-spec = tie.close (tie.spec inter-cbp-requires returns)

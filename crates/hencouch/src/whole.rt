@@ -1,0 +1,173 @@
+// The entry that searches for a macroblock and codes it.
+ghost use mathlib.Core.Bool.{not};
+ghost use mathlib.Core.Path.{_≡_};
+ghost use lib.Dec.{eqb};
+ghost use Rattle.refusal.specs.Number.{codeOf};
+ghost use Rattle.refusal.specs.Reply.{done};
+ghost use Rattle.reader.specs.Handed.{areas};
+ghost use Rattle.macroblock.specs.Request.{request, replyOf};
+ghost use Rattle.macroblock.specs.Answer.{answerOf, recordOf};
+ghost use Rattle.hencouch.specs.Numbers.{geometryOf, sizeOf, placeOf, settingsOf};
+ghost use Rattle.hencouch.specs.Search.{vectorArea, vectorsArea};
+ghost use Rattle.hencouch.specs.Whole.{written, writtenOf};
+use macroblock::Settings;
+use plane::Geometry;
+use plane::MacroblockPlace;
+use plane::SourceSize;
+use record::MotionVector;
+use record::Record;
+use refusal::Reply;
+
+// Horizontal, then vertical.
+fn vector_area(v: MotionVector) -> [i32; 2]
+    ensures { λ r. ⌜ r ≡ vectorArea v ⌝ }
+{
+    [v.x, v.y]
+}
+
+// Each vector's horizontal, then vertical.
+fn vectors_area(vs: [MotionVector; 4]) -> [i32; 8]
+    ensures { λ r. ⌜ r ≡ vectorsArea vs ⌝ }
+{
+    let a = vs[0];
+    let b = vs[1];
+    let c = vs[2];
+    let d = vs[3];
+    [a.x, a.y, b.x, b.y, c.x, c.y, d.x, d.y]
+}
+
+// A record into its areas, where there is one.
+fn write_record(
+    reply: Reply,
+    given: Record,
+    vector: &mut [i32; 2],
+    sum: &mut u32,
+    four_vectors: &mut [i32; 8],
+    four_sums: &mut [u32; 4],
+    patterns: &mut [u8; 2],
+    counts: &mut [u8; 6],
+)
+    ensures { λ _. ⌜ (
+        let old = written (now (vector .entry)) (now (sum .entry)) (now («four_vectors» .entry)) (now («four_sums» .entry))
+        (now (patterns .entry)) (now (counts .entry)) in
+        let new = written (now (vector .exit)) (now (sum .exit)) (now («four_vectors» .exit)) (now («four_sums» .exit))
+        (now (patterns .exit)) (now (counts .exit)) in
+        new ≡ done reply (writtenOf given) old
+        ) ⌝ }
+{
+    match reply {
+        Reply::Refused(_) => {}
+        Reply::Done => {
+            let one = given.vector;
+            let four = given.vectors;
+            let sums = given.sums;
+            let six = given.counts;
+            *vector = vector_area(one);
+            *sum = given.sum;
+            *four_vectors = vectors_area(four);
+            *four_sums = sums;
+            *patterns = [given.luma_pattern, given.chroma_pattern];
+            *counts = six;
+        }
+    }
+}
+
+// Searches for a macroblock and codes it against a lent prediction: 1, 2, 3, 4, 5, 6, 7, 8, 10, 11, 12, 14. Any first_method but 0 is
+// the first method.
+#[no_mangle]
+pub extern "C" fn hencouch_code_macroblock(
+    fcode: u32,
+    mode: u32,
+    bpp: u32,
+    quantiser: u32,
+    first_method: u8,
+    vectors: u32,
+    scan: u32,
+    reference: &[u8],
+    ref_width: usize,
+    ref_height: usize,
+    stride: usize,
+    y: &[u8],
+    cb: &[u8],
+    cr: &[u8],
+    width: usize,
+    height: usize,
+    column: usize,
+    row: usize,
+    weights: &[u8],
+    pred_y: &[u8],
+    pred_cb: &[u8],
+    pred_cr: &[u8],
+    lasts: &mut [u8],
+    runs: &mut [u8],
+    levels: &mut [i32],
+    vector: &mut [i32; 2],
+    sum: &mut u32,
+    four_vectors: &mut [i32; 8],
+    four_sums: &mut [u32; 4],
+    patterns: &mut [u8; 2],
+    counts: &mut [u8; 6],
+) -> u8
+    ensures { λ r. ⌜ (
+        let settings = settingsOf fcode mode bpp quantiser (not (eqb «first_method» 0)) vectors scan in
+        let geometry = geometryOf «ref_width» «ref_height» stride in
+        let q = request settings (now (reference .entry)) geometry
+        (now (y .entry)) (now (cb .entry)) (now (cr .entry)) (sizeOf width height) (placeOf column row)
+        (now (weights .entry)) (now («pred_y» .entry)) (now («pred_cb» .entry)) (now («pred_cr» .entry))
+        (now (lasts .entry)) (now (runs .entry)) (now (levels .entry)) in
+        let old = written (now (vector .entry)) (now (sum .entry)) (now («four_vectors» .entry)) (now («four_sums» .entry))
+        (now (patterns .entry)) (now (counts .entry)) in
+        let new = written (now (vector .exit)) (now (sum .exit)) (now («four_vectors» .exit)) (now («four_sums» .exit))
+        (now (patterns .exit)) (now (counts .exit)) in
+        (r ≡ codeOf (replyOf q))
+        × (areas (now (lasts .exit)) (now (runs .exit)) (now (levels .exit)) ≡ answerOf q .areas)
+        × (new ≡ done (replyOf q) (writtenOf (recordOf q)) old)
+        ) ⌝ }
+{
+    let settings = Settings {
+        fcode,
+        mode,
+        bpp,
+        quantiser,
+        first_method: first_method != 0,
+        vectors,
+        scan,
+    };
+    let geometry = Geometry {
+        width: ref_width,
+        height: ref_height,
+        stride,
+    };
+    let size = SourceSize { width, height };
+    let place = MacroblockPlace { column, row };
+    let coded = macroblock::code_macroblock(
+        settings,
+        reference,
+        geometry,
+        y,
+        cb,
+        cr,
+        size,
+        place,
+        weights,
+        pred_y,
+        pred_cb,
+        pred_cr,
+        lasts,
+        runs,
+        levels,
+    );
+    let reply = coded.reply;
+    let given = coded.record;
+    write_record(
+        reply,
+        given,
+        vector,
+        sum,
+        four_vectors,
+        four_sums,
+        patterns,
+        counts,
+    );
+    refusal::code(reply)
+}
