@@ -5,6 +5,7 @@
 include!("modules.rs");
 
 mod levels_bench;
+mod macroblock_bench;
 mod sample_bench;
 mod search_bench;
 mod timing;
@@ -15,4 +16,5 @@ fn main() {
     transform_bench::bench();
     levels_bench::bench();
     search_bench::bench();
+    macroblock_bench::bench();
 }

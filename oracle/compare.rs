@@ -7,10 +7,12 @@
 
 include!("modules.rs");
 
+mod counted;
 mod damage;
 mod events;
 mod guard;
 mod levels;
+mod macroblock;
 mod options;
 mod sample;
 mod search;
@@ -29,9 +31,15 @@ fn main() {
     });
     println!("seed {}", options.seed);
     let mut groups = Vec::new();
-    for compare in
-        [sample::compare, transform::compare, levels::compare, events::compare, search::compare]
-    {
+    let all = [
+        sample::compare,
+        transform::compare,
+        levels::compare,
+        events::compare,
+        search::compare,
+        macroblock::compare,
+    ];
+    for compare in all {
         match compare(&options) {
             Ok(summary) => groups.push(summary),
             Err(text) => {

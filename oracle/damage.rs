@@ -1,7 +1,8 @@
-//! What can be wrong with a reference plane and with bits per pixel, for the groups that take them:
-//! refusals written from the list and independent of the library, and random damage.
+//! What can be wrong with a reference plane, with bits per pixel, with a source's sides, with a
+//! macroblock's place and with other settings, for the groups that take them: refusals written from
+//! the list and independent of the library, and random damage.
 
-use crate::library::Reference;
+use crate::library::{Reference, Source};
 use crate::random::Random;
 
 pub fn bad_geometry(r: &Reference) -> bool {
@@ -62,4 +63,75 @@ pub fn too_short(most: u128, len: usize, random: &mut Random) -> usize {
 pub fn cut(r: &mut Reference, random: &mut Random) {
     let len = too_short(last_sample(r), r.samples.len(), random);
     r.samples = &r.samples[..len];
+}
+
+pub fn bad_sides(source: &Source) -> bool {
+    let side = 1..=4096;
+    !side.contains(&source.width) || !side.contains(&source.height)
+}
+
+/// How many samples a source has, exactly.
+pub fn places(width: usize, height: usize) -> u128 {
+    width as u128 * height as u128
+}
+
+pub fn beyond(source: &Source, column: usize, row: usize) -> bool {
+    column >= source.width.div_ceil(16) || row >= source.height.div_ceil(16)
+}
+
+/// A side of 0 or above 4,096.
+pub fn sides(source: &mut Source, random: &mut Random) {
+    let huge = random.pick(&[usize::MAX, 1 << 63, 1 << 31, usize::MAX - 15]);
+    match random.size(0, 6) {
+        0 => source.width = 0,
+        1 => source.height = 0,
+        2 => (source.width, source.height) = (4097, random.size(1, 20)),
+        3 => (source.width, source.height) = (random.size(1, 20), 4097),
+        4 => source.width = random.pick(&[huge, beyond_32_bits(source.width)]),
+        5 => source.height = random.pick(&[huge, beyond_32_bits(source.height)]),
+        // The product wraps around to 0.
+        _ => (source.width, source.height) = (1 << 32, 1 << 32),
+    }
+}
+
+/// Fewer source samples than places, if there are places.
+pub fn shorten(source: &mut Source, random: &mut Random) {
+    if source.width == 0 || source.height == 0 {
+        (source.width, source.height) = (4097, 16);
+    }
+    let most = places(source.width, source.height) - 1;
+    let len = too_short(most, source.samples.len(), random);
+    source.samples = &source.samples[..len];
+}
+
+/// A column or a row, or both, beyond the source.
+pub fn place(source: &Source, column: &mut usize, row: &mut usize, random: &mut Random) {
+    let far = random.pick(&[usize::MAX, 1 << 63, 1 << 60, 4096, beyond_32_bits(0)]);
+    let which = random.size(1, 3);
+    for (number, side, part) in [(column, source.width, 1), (row, source.height, 2)] {
+        if which & part != 0 {
+            let first = side.div_ceil(16);
+            *number = random.pick(&[first, first, first.saturating_add(1), far.max(first)]);
+        }
+    }
+}
+
+/// An fcode outside 1..7.
+pub fn fcode(random: &mut Random) -> u32 {
+    random.pick(&[0, 0, 8, 8, 9, 33, 256 + 1, 1 << 31, u32::MAX])
+}
+
+/// A mode that is neither half nor quarter.
+pub fn mode(random: &mut Random) -> u32 {
+    random.pick(&[2, 2, 3, 255, 256, 257, 1 << 31, u32::MAX])
+}
+
+/// A quantiser outside 1..31.
+pub fn quantiser(random: &mut Random) -> u32 {
+    random.pick(&[0, 0, 32, 33, 255, 256 + 5, 1 << 31, u32::MAX])
+}
+
+/// A scan that is none of the three.
+pub fn scan(random: &mut Random) -> u32 {
+    random.pick(&[3, 4, 255, 256, 256 + 2, 1 << 31, u32::MAX])
 }

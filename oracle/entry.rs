@@ -1,5 +1,6 @@
 //! `entry!` declares a function of the static library and a safe form of it: what the function
-//! `reads` or `writes` is a slice, handed over as a pointer and a length.
+//! `reads` or `writes` is a slice, handed over as a pointer and a length. Any other argument is
+//! handed over as it is; a reference to a number or to an array of fixed length is a bare pointer.
 //!
 //! Nothing checks a declaration against the library's source: it, `include/hencouch.h` and the
 //! `extern "C"` functions of the library are kept alike by hand.
@@ -29,9 +30,9 @@ macro_rules! entry {
             $($rest)*);
     };
     (@ $name:ident $symbol:ident [$($c:tt)*] [$($safe:tt)*] [$($pass:tt)*]
-        $number:ident: $sort:ty, $($rest:tt)*) => {
+        $number:ident: $sort:ty $(, $($rest:tt)*)?) => {
         entry!(@ $name $symbol [$($c)* $number: $sort,]
-            [$($safe)* $number: $sort,] [$($pass)* $number,] $($rest)*);
+            [$($safe)* $number: $sort,] [$($pass)* $number,] $($($rest)*)?);
     };
     ($name:ident = $symbol:ident { $($arguments:tt)* }) => {
         entry!(@ $name $symbol [] [] [] $($arguments)*);

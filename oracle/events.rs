@@ -1,6 +1,7 @@
 //! Scans and events: `forward_scan`, `inverse_scan` and `levels_to_events`, against the originals
 //! `forward_scan`, `inverse_scan` and `qfs_to_events`.
 
+use crate::damage;
 use crate::guard::{held, Lent};
 use crate::ivop_encode;
 use crate::library;
@@ -194,7 +195,7 @@ fn damaged_calls(function: Function, calls: usize, random: &mut Random) -> Resul
         let alone = random.chance(40);
         for &number in numbers {
             if number == always || (!alone && random.chance(40)) {
-                damage(&mut call, number, random);
+                spoil(&mut call, number, random);
             }
         }
         let reasons = call.check(random)?;
@@ -203,7 +204,7 @@ fn damaged_calls(function: Function, calls: usize, random: &mut Random) -> Resul
     tally.finish()
 }
 
-fn damage(call: &mut Call, number: u8, random: &mut Random) {
+fn spoil(call: &mut Call, number: u8, random: &mut Random) {
     match number {
         12 => {
             let len = random.pick(&[0, 1, 63, 65, 384]);
@@ -219,6 +220,6 @@ fn damage(call: &mut Call, number: u8, random: &mut Random) {
             let at = random.size(0, call.levels.len() - 1);
             call.levels[at] = random.pick(&[-2048, 2048, 4096, i32::MIN, i32::MAX]);
         }
-        _ => call.scan = random.pick(&[3, 4, 255, 256, 256 + 2, 1 << 31, u32::MAX]),
+        _ => call.scan = damage::scan(random),
     }
 }

@@ -4,7 +4,7 @@
 use std::fmt::Display;
 
 /// As long as the longest answer, so that one written to too short an area is still caught.
-const GUARD: usize = 256;
+const GUARD: usize = 384;
 
 /// What an area holds: its pattern at a place.
 pub trait Pattern: Copy + PartialEq {

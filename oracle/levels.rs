@@ -2,6 +2,7 @@
 //! `quantise_method1_inter`, `quantise_method2_inter` and `inverse_quant_method2_coef` with
 //! `saturate_fprime`, coefficient by coefficient.
 
+use crate::damage;
 use crate::guard::{held, Lent};
 use crate::inverse_quant::{inverse_quant_method2_coef, saturate_fprime};
 use crate::library;
@@ -148,7 +149,7 @@ fn damaged_calls(
         let alone = random.chance(40);
         for &number in numbers {
             if number == always || (!alone && random.chance(40)) {
-                damage(&mut call, number, random);
+                spoil(&mut call, number, random);
             }
         }
         let reasons = call.check(random.byte())?;
@@ -157,9 +158,9 @@ fn damaged_calls(
     tally.finish()
 }
 
-fn damage(call: &mut Call, number: u8, random: &mut Random) {
+fn spoil(call: &mut Call, number: u8, random: &mut Random) {
     match number {
-        10 => call.quantiser = random.pick(&[0, 0, 32, 33, 255, 256 + 5, 1 << 31, u32::MAX]),
+        10 => call.quantiser = damage::quantiser(random),
         11 => {
             call.first_method = random.pick(&[1, 2, 128, 255]);
             let at = random.size(0, call.weights.len() - 1);

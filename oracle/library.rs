@@ -1,11 +1,16 @@
-//! The static library's functions in safe form. The two interpolations and the two searches take
-//! their many arguments as structs.
+//! The static library's functions in safe form. Those with many arguments take them as structs.
 
+mod macroblock;
 mod raw;
 mod search;
 
+pub use macroblock::{
+    code_macroblock, intra_activity, macroblock_residual, quantise_inter_block,
+    quantise_inter_residual, Areas, Coding, Macroblock, Prediction, Quantising, Record,
+};
 pub use raw::{
-    forward_dct_8x8, forward_scan, inverse_block, inverse_scan, levels_to_events, quantise_block,
+    forward_dct_8x8, forward_scan, inter_cbp, inverse_block, inverse_scan, levels_to_events,
+    quantise_block,
 };
 pub use search::{estimate_motion, estimate_motion_4mv, Search, Source};
 

@@ -12,6 +12,7 @@ mod half_sample;
 mod idct;
 #[allow(dead_code)]
 mod inverse_quant;
+#[allow(dead_code)]
 mod ivop_encode;
 #[allow(dead_code, unused_imports)]
 mod library;
@@ -28,6 +29,7 @@ mod quantise;
 mod quarter_sample;
 #[allow(dead_code)]
 mod random;
+mod reconstruct;
 mod sample_padding;
 #[allow(dead_code)]
 mod scan;

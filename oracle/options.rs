@@ -2,7 +2,7 @@
 
 pub struct Options {
     pub seed: u64,
-    /// Valid calls for each function; the searches take a tenth of them.
+    /// Valid calls for each function; the searches and the coding of a macroblock take a tenth.
     pub valid: usize,
     /// Damaged calls for each function.
     pub refused: usize,

@@ -1,19 +1,18 @@
 //! The two searches: `estimate_motion` and `estimate_motion_4mv`.
 
-mod call;
+pub mod call;
 mod check;
-mod contents;
+pub mod contents;
 mod coverage;
 mod damage;
 mod form;
 mod listed;
-mod marks;
-mod refusal;
-mod scene;
-mod shape;
+pub mod marks;
+pub mod refusal;
+pub mod scene;
+pub mod shape;
 mod sums;
-
-mod valid;
+pub mod valid;
 mod walk;
 
 use crate::options::Options;

@@ -14,12 +14,13 @@ use crate::pictures::{bees, noise, textured};
 use crate::pvop_encode::Place;
 use crate::timing::{measure_each, Times};
 use std::hint::black_box;
-use table::{Function, Picture, Row};
+pub use table::Picture;
+use table::{Function, Row};
 
-const WIDTH: usize = 176;
-const HEIGHT: usize = 144;
-const COLUMNS: usize = WIDTH / 16;
-const MACROBLOCKS: usize = COLUMNS * HEIGHT / 16;
+pub const WIDTH: usize = 176;
+pub const HEIGHT: usize = 144;
+pub const COLUMNS: usize = WIDTH / 16;
+pub const MACROBLOCKS: usize = COLUMNS * HEIGHT / 16;
 
 /// Every macroblock of every row is timed in each of several passes over the table, so that a slow
 /// spell of the machine spoils no row.
@@ -50,7 +51,7 @@ fn draw(sample: impl Fn(i32, i32) -> u8) -> Vec<u8> {
 }
 
 /// The source and the reference.
-fn pictures(picture: Picture) -> (Vec<u8>, Vec<u8>) {
+pub fn pictures(picture: Picture) -> (Vec<u8>, Vec<u8>) {
     match picture {
         Picture::Textured => {
             let grain = |x, y| noise(x, y, 9) % 3;

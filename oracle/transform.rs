@@ -1,6 +1,6 @@
 //! The forward transform: `forward_dct_8x8`, at 8 bits.
 
-mod block;
+pub mod block;
 mod check;
 mod coverage;
 mod damage;

@@ -1,11 +1,9 @@
-//! A macroblock with all that the original search is told of it. The original takes the source
-//! from a picture type that is in no listed file; here the 16 x 16 samples are laid out by document
-//! 01's rule, the last column and row repeated.
+//! A macroblock with all that the original search is told of it.
 
 use super::{
     estimate_motion, estimate_motion_4mv, full_pel_window, mv_range, sad_full_pel,
-    sad_full_pel_block8, sad_subpel, sad_subpel_block8, units_per_pel, BVopSampleMode,
-    MotionVector,
+    sad_full_pel_block8, sad_subpel, sad_subpel_block8, source_luma_mb, units_per_pel,
+    BVopSampleMode, FrameView, MotionVector,
 };
 use crate::half_sample::ReferenceVop;
 use crate::library::{Reference, Search, Source};
@@ -37,7 +35,7 @@ impl<'a> Place<'a> {
             _ => BVopSampleMode::QuarterPel { bits_per_pixel: search.bits_per_pixel },
         };
         Place {
-            samples: block(&search.source, 16 * search.column, 16 * search.row),
+            samples: source_luma_mb(&luma_view(&search.source), search.row, search.column),
             reference,
             x: 16 * search.column as i32,
             y: 16 * search.row as i32,
@@ -92,10 +90,8 @@ impl<'a> Place<'a> {
     }
 }
 
-fn block(source: &Source, x: usize, y: usize) -> [[i32; 16]; 16] {
-    let at = |x: usize, y: usize| {
-        let (x, y) = (x.min(source.width - 1), y.min(source.height - 1));
-        i32::from(source.samples[y * source.width + x])
-    };
-    std::array::from_fn(|j| std::array::from_fn(|i| at(x + i, y + j)))
+/// The source as the original's picture. Of its planes only the luma is looked at.
+pub fn luma_view<'a>(source: &Source<'a>) -> FrameView<'a> {
+    let Source { samples, width, height } = *source;
+    FrameView { y: samples, cb: &[], cr: &[], width, height }
 }

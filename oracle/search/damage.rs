@@ -3,7 +3,7 @@
 
 use super::call::{Call, Function};
 use super::refusal;
-use crate::damage::{beyond_32_bits, bits, cut, geometry, too_short};
+use crate::damage::{bits, cut, fcode, geometry, mode, place, shorten, sides};
 use crate::library::{Reference, Search, Source};
 use crate::random::Random;
 
@@ -14,14 +14,17 @@ pub fn call<'a>(function: Function, store: &'a [u8], random: &mut Random) -> Cal
     let mut call = sound(function, store, random);
     for number in choose(function, random) {
         match number {
-            1 => call.search.fcode = random.pick(&[0, 0, 8, 8, 9, 33, 256 + 1, 1 << 31, u32::MAX]),
-            2 => call.search.mode = random.pick(&[2, 2, 3, 255, 256, 257, 1 << 31, u32::MAX]),
+            1 => call.search.fcode = fcode(random),
+            2 => call.search.mode = mode(random),
             3 => (call.search.mode, call.search.bits_per_pixel) = (1, bits(random)),
             4 => geometry(&mut call.search.reference, random),
             5 => cut(&mut call.search.reference, random),
             6 => sides(&mut call.search.source, random),
-            7 => shorten(&mut call, random),
-            8 => place(&mut call.search, random),
+            7 => shorten(&mut call.search.source, random),
+            8 => {
+                let Search { source, column, row, .. } = &mut call.search;
+                place(source, column, row, random)
+            }
             9 => seed(&mut call, random),
             _ => lengths(&mut call, random),
         }
@@ -53,46 +56,6 @@ fn choose(function: Function, random: &mut Random) -> Vec<u8> {
     let share = random.pick(&[0, 10, 40]);
     numbers.retain(|&n| n == always || (n != other && random.chance(share)));
     numbers
-}
-
-/// A side of 0 or above 4,096.
-fn sides(source: &mut Source, random: &mut Random) {
-    let huge = random.pick(&[usize::MAX, 1 << 63, 1 << 31, usize::MAX - 15]);
-    match random.size(0, 6) {
-        0 => source.width = 0,
-        1 => source.height = 0,
-        2 => (source.width, source.height) = (4097, random.size(1, 20)),
-        3 => (source.width, source.height) = (random.size(1, 20), 4097),
-        4 => source.width = random.pick(&[huge, beyond_32_bits(source.width)]),
-        5 => source.height = random.pick(&[huge, beyond_32_bits(source.height)]),
-        // The product wraps around to 0.
-        _ => (source.width, source.height) = (1 << 32, 1 << 32),
-    }
-}
-
-/// Fewer source samples than places, if there are places.
-fn shorten(call: &mut Call, random: &mut Random) {
-    let source = &mut call.search.source;
-    if source.width == 0 || source.height == 0 {
-        (source.width, source.height) = (4097, 16);
-    }
-    let most = source.width as u128 * source.height as u128 - 1;
-    let len = too_short(most, source.samples.len(), random);
-    source.samples = &source.samples[..len];
-}
-
-/// A column or a row, or both, beyond the source.
-fn place(search: &mut Search, random: &mut Random) {
-    let far = random.pick(&[usize::MAX, 1 << 63, 1 << 60, 4096, beyond_32_bits(0)]);
-    let which = random.size(1, 3);
-    if which & 1 == 1 {
-        let first = search.source.width.div_ceil(16);
-        search.column = random.pick(&[first, first, first.saturating_add(1), far.max(first)]);
-    }
-    if which & 2 == 2 {
-        let first = search.source.height.div_ceil(16);
-        search.row = random.pick(&[first, first, first.saturating_add(1), far.max(first)]);
-    }
 }
 
 /// One or both parts of the seed beyond the range.

@@ -2,7 +2,7 @@
 //! reason that a call gives is worked out, and the reply is the first of them.
 
 use super::call::{Call, Function};
-use crate::damage::{bad_geometry, last_sample};
+use crate::damage::{bad_geometry, bad_sides, beyond, last_sample, places};
 
 /// The numbers that can occur, in the order in which they are looked at.
 pub fn numbers(function: Function) -> &'static [u8] {
@@ -15,16 +15,15 @@ pub fn numbers(function: Function) -> &'static [u8] {
 /// All reasons to turn this call back, in order. The reply is the first, or 0 if there is none.
 pub fn reasons(call: &Call) -> Vec<u8> {
     let s = &call.search;
-    let side = 1..=4096;
     let holds = |number: u8| match number {
         1 => !(1..=7).contains(&s.fcode),
         2 => s.mode > 1,
         3 => s.mode == 1 && !(1..=8).contains(&s.bits_per_pixel),
         4 => bad_geometry(&s.reference),
         5 => s.reference.samples.len() as u128 <= last_sample(&s.reference),
-        6 => !side.contains(&s.source.width) || !side.contains(&s.source.height),
-        7 => (s.source.samples.len() as u128) < area(call),
-        8 => s.column >= s.source.width.div_ceil(16) || s.row >= s.source.height.div_ceil(16),
+        6 => bad_sides(&s.source),
+        7 => (s.source.samples.len() as u128) < places(s.source.width, s.source.height),
+        8 => beyond(&s.source, s.column, s.row),
         9 => bad_seed(call),
         12 => {
             let count = call.function.count();
@@ -33,11 +32,6 @@ pub fn reasons(call: &Call) -> Vec<u8> {
         _ => unreachable!("no such refusal of a search"),
     };
     numbers(call.function).iter().copied().filter(|&number| holds(number)).collect()
-}
-
-/// The exact product of the source's sides.
-pub fn area(call: &Call) -> u128 {
-    call.search.source.width as u128 * call.search.source.height as u128
 }
 
 /// A vector's least and greatest part. A bad fcode is looked at before; the nearest good one counts

@@ -67,13 +67,13 @@ fn motion(shape: &str, random: &mut Random) -> (i32, i32) {
 }
 
 /// Samples between two margins, and a copy of all to compare with.
-struct Lending {
+pub struct Lending {
     store: Vec<u8>,
     before: Vec<u8>,
 }
 
 impl Lending {
-    fn new(
+    pub fn new(
         width: usize,
         height: usize,
         stride: usize,
@@ -92,11 +92,11 @@ impl Lending {
         Lending { store, before }
     }
 
-    fn samples(&self) -> &[u8] {
+    pub fn samples(&self) -> &[u8] {
         &self.store[MARGIN..self.store.len() - MARGIN]
     }
 
-    fn unchanged(&self) -> bool {
+    pub fn unchanged(&self) -> bool {
         self.store == self.before
     }
 }

@@ -48,9 +48,9 @@ fn name(function: Function) -> &'static str {
     }
 }
 
-impl Row {
-    fn picture(&self) -> &'static str {
-        match self.picture {
+impl Picture {
+    pub fn name(self) -> &'static str {
+        match self {
             Picture::Textured => "textured",
             Picture::Bees => "bees",
         }
@@ -65,7 +65,7 @@ pub fn print(rows: &[Row]) {
         let Times { rust, rattle } = row.times;
         println!(
             "{name:<12}  {mode:<7}  {:<8}  {:>5}  {rust:>9.0}  {rattle:>9.0}  {:>6.2}",
-            row.picture(),
+            row.picture.name(),
             row.fcode,
             row.times.ratio()
         );
@@ -85,5 +85,9 @@ fn print_lowest(rows: &[Row], function: Function, mode: u32) {
         .min_by(|a, b| a.times.ratio().total_cmp(&b.times.ratio()))
         .expect("at least one row");
     let (name, mode, ratio) = (name(function), MODES[mode as usize], row.times.ratio());
-    println!("{name}, {mode}: lowest ratio {ratio:.2} ({} fcode {})", row.picture(), row.fcode);
+    println!(
+        "{name}, {mode}: lowest ratio {ratio:.2} ({} fcode {})",
+        row.picture.name(),
+        row.fcode
+    );
 }

@@ -1,0 +1,161 @@
+//! The entries for one macroblock in safe form.
+
+use super::{raw, Search, Source};
+
+/// What a macroblock is coded against: 256 samples of luma, 64 of each chroma.
+#[derive(Clone, Copy)]
+pub struct Prediction<'a> {
+    pub y: &'a [u8],
+    pub cb: &'a [u8],
+    pub cr: &'a [u8],
+}
+
+/// A macroblock of a source picture, whose chroma sides are half the luma's, rounded up.
+#[derive(Clone, Copy)]
+pub struct Macroblock<'a> {
+    pub source: Source<'a>,
+    pub cb: &'a [u8],
+    pub cr: &'a [u8],
+    pub column: usize,
+    pub row: usize,
+    pub prediction: Prediction<'a>,
+}
+
+/// How coefficients become levels and events. Any `first_method` but 0 is the first method.
+#[derive(Clone, Copy, Debug)]
+pub struct Quantising<'a> {
+    pub quantiser: u32,
+    pub first_method: u8,
+    pub weights: &'a [u8],
+    pub scan: u32,
+}
+
+/// All that the entry which searches and codes is told; its luma stands in `search`.
+#[derive(Clone, Copy)]
+pub struct Coding<'a> {
+    pub search: Search<'a>,
+    /// 1 or 4.
+    pub vectors: u32,
+    pub cb: &'a [u8],
+    pub cr: &'a [u8],
+    pub prediction: Prediction<'a>,
+    pub quantising: Quantising<'a>,
+}
+
+impl<'a> Coding<'a> {
+    pub fn macroblock(&self) -> Macroblock<'a> {
+        let Coding { search, cb, cr, prediction, .. } = *self;
+        let Search { source, column, row, .. } = search;
+        Macroblock { source, cb, cr, column, row, prediction }
+    }
+}
+
+/// Areas lent for events, 64 entries a block.
+pub struct Areas<'a> {
+    pub lasts: &'a mut [u8],
+    pub runs: &'a mut [u8],
+    pub levels: &'a mut [i32],
+}
+
+/// Areas lent for a macroblock's record: vectors horizontal first, patterns luma first.
+pub struct Record<'a> {
+    pub vector: &'a mut [i32; 2],
+    pub sum: &'a mut u32,
+    pub four_vectors: &'a mut [i32; 8],
+    pub four_sums: &'a mut [u32; 4],
+    pub patterns: &'a mut [u8; 2],
+    pub counts: &'a mut [u8; 6],
+}
+
+/// How far a macroblock's luma lies from its mean.
+pub fn intra_activity(source: &Source, column: usize, row: usize, activity: &mut u32) -> u8 {
+    let Source { samples, width, height } = *source;
+    raw::intra_activity(samples, width, height, column, row, activity)
+}
+
+/// Source less prediction, six blocks of 64.
+pub fn macroblock_residual(m: &Macroblock, out: &mut [i32]) -> u8 {
+    let Source { samples, width, height } = m.source;
+    let p = &m.prediction;
+    raw::macroblock_residual(
+        samples, m.cb, m.cr, width, height, m.column, m.row, p.y, p.cb, p.cr, out,
+    )
+}
+
+/// The events of a residual of 64, and their count.
+pub fn quantise_inter_block(residual: &[i32], q: &Quantising, out: Areas, count: &mut u8) -> u8 {
+    let Quantising { quantiser, first_method, weights, scan } = *q;
+    let Areas { lasts, runs, levels } = out;
+    raw::quantise_inter_block(
+        residual,
+        quantiser,
+        first_method,
+        weights,
+        scan,
+        lasts,
+        runs,
+        levels,
+        count,
+    )
+}
+
+/// The events of six residuals of 64, and their counts.
+pub fn quantise_inter_residual(
+    residual: &[i32],
+    q: &Quantising,
+    out: Areas,
+    counts: &mut [u8; 6],
+) -> u8 {
+    let Quantising { quantiser, first_method, weights, scan } = *q;
+    let Areas { lasts, runs, levels } = out;
+    raw::quantise_inter_residual(
+        residual,
+        quantiser,
+        first_method,
+        weights,
+        scan,
+        lasts,
+        runs,
+        levels,
+        counts,
+    )
+}
+
+/// Searches for a macroblock and codes it against the prediction.
+pub fn code_macroblock(c: &Coding, out: Areas, record: Record) -> u8 {
+    let Search { source, column, row, reference, mode, bits_per_pixel, fcode } = c.search;
+    let Quantising { quantiser, first_method, weights, scan } = c.quantising;
+    raw::code_macroblock(
+        fcode,
+        mode,
+        bits_per_pixel,
+        quantiser,
+        first_method,
+        c.vectors,
+        scan,
+        reference.samples,
+        reference.width,
+        reference.height,
+        reference.stride,
+        source.samples,
+        c.cb,
+        c.cr,
+        source.width,
+        source.height,
+        column,
+        row,
+        weights,
+        c.prediction.y,
+        c.prediction.cb,
+        c.prediction.cr,
+        out.lasts,
+        out.runs,
+        out.levels,
+        record.vector,
+        record.sum,
+        record.four_vectors,
+        record.four_sums,
+        record.patterns,
+        record.counts,
+    )
+}

@@ -1,0 +1,46 @@
+//! `inter_cbp`, against the original's over so many events.
+
+use super::generator;
+use crate::guard::{held, Lent};
+use crate::library;
+use crate::options::Options;
+use crate::pvop_encode::inter_cbp;
+use crate::summary::Summary;
+use crate::texture::AcEvent;
+
+const NAME: &str = "inter_cbp";
+
+/// Holds the library to the original.
+fn check(counts: &[u8; 6], salt: u8) -> Result<(), String> {
+    let handed = *counts;
+    let mut lent = Lent::<u8>::new(2, salt);
+    let area: &mut [u8; 2] = lent.area().try_into().expect("an area of 2");
+    let got = library::inter_cbp(&handed, area);
+    let event = AcEvent { last: true, run: 0, level: 1 };
+    let events: Vec<Vec<AcEvent>> = counts.iter().map(|&n| vec![event; n.into()]).collect();
+    let (luma, chroma) = inter_cbp(&events);
+    let found = held(&lent, got, 0, &[luma, chroma]);
+    let same = if handed == *counts { Ok(()) } else { Err("counts were changed".to_string()) };
+    found.and(same).map_err(|text| format!("MISMATCH: {NAME}: {text}\ncounts: {counts:?}"))
+}
+
+pub fn compare(options: &Options) -> Result<Summary, String> {
+    let mut random = generator(options, 4);
+    for coded in 0..64 {
+        for count in [1, 2, 64, 128, 255] {
+            check(&std::array::from_fn(|b| if coded >> b & 1 == 1 { count } else { 0 }), 0xA5)?;
+        }
+    }
+    println!("{NAME}: 320 listed cases equal: all 64 sets of blocks with events");
+    for _ in 0..options.valid {
+        let percent = random.pick(&[10, 50, 90]);
+        let most = random.pick(&[1, 64, 255]);
+        let counts = std::array::from_fn(|_| match random.chance(percent) {
+            true => random.int(1, most) as u8,
+            false => 0,
+        });
+        check(&counts, random.byte())?;
+    }
+    println!("{NAME}: {} valid calls equal", options.valid);
+    Ok(Summary { equal: vec![(NAME, options.valid)], refusals: 0 })
+}
