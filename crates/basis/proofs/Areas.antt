@@ -1,9 +1,9 @@
 -- Areas that are filled from the front with a rest of one value, and maps that grow at the end. Assumes nothing.
-use Prim.Native.Nat.{ℕ, suc, _+_, _-_, _<_, _≤_}
+use Prim.Native.Nat.{ℕ, zero, suc, _+_, _-_, _<_, _≤_}
 use native.Mathlib.Omega.{arith}
 use mathlib.Core.List.{List, [], _∷_, _++_, map}
 use mathlib.Core.Path.{_≡_, refl, sym, ap, _∙_}
-use lib.ListN.{length, set, replicate, length-append, length-replicate}
+use lib.ListN.{length, getD, set, replicate, length-append, length-replicate}
 use lib.Seq.{set-append-seam, append-snoc}
 
 module _ {X : Type 0} where
@@ -32,3 +32,14 @@ module _ {X : Type 0} where
 
       plus : length xs + 1 ≡ suc (length xs)
       plus = omega arith
+
+  -- past what it starts with there is the rest
+  rest-at : (m k : ℕ) (d : X) → getD (replicate m d) k d ≡ d
+  rest-at zero k d = refl
+  rest-at (suc m) zero d = refl
+  rest-at (suc m) (suc k) d = rest-at m k d
+
+  pub pad-past : (xs : List X) (m k : ℕ) (d : X) → length xs ≤ k → getD (xs ++ replicate m d) k d ≡ d
+  pad-past [] m k d h = rest-at m k d
+  pad-past (x ∷ xs) m zero d h = absurd (omega arith)
+  pad-past (x ∷ xs) m (suc k) d h = pad-past xs m k d (omega arith)

@@ -7,7 +7,7 @@ use Rattle.record.specs.Zero.{noRecord}
 use Rattle.macroblock.specs.Request.{Request, replyOf}
 use Rattle.macroblock.specs.Answer.{Answer, answerOf, recordOf}
 use Rattle.hencouch.specs.Whole.{Written, writtenOf}
-use Rattle.hencouch.proofs.Replies.{done-again}
+use Rattle.refusal.proofs.Replies.{done-again}
 
 -- a is the entry's answer, r its reply's number, and new what its record leaves of the areas that held old
 pub laid-out : (q : Request) (a : Answer) (r : ℕ) (new old : Written) → a ≡ answerOf q → r ≡ codeOf (a .coded .reply) → new ≡ done (a .coded .reply) (writtenOf (a .coded .«record»)) old

@@ -1,4 +1,4 @@
--- What a reply of two areas tells, and what stands where an answer depends on the reply too. Assumes nothing.
+-- What a reply of two areas tells. Assumes nothing.
 use Prim.Native.Nat.{ℕ}
 use mathlib.Core.Bool.{Bool, _&&_}
 use mathlib.Core.Path.{_≡_, refl, ap, _∙_}
@@ -6,8 +6,8 @@ use lib.Dec.{eqb}
 use borrow.Author.Tests.{eqb-true}
 use Rattle.refusal.specs.declared.Refusal.the-variants.{Length}
 use Rattle.refusal.specs.declared.Reply.{Reply}
-use Rattle.refusal.specs.declared.Reply.the-variants.{Done, Refused}
-use Rattle.refusal.specs.Reply.{unless, andThen, done}
+use Rattle.refusal.specs.declared.Reply.the-variants.{Done}
+use Rattle.refusal.specs.Reply.{unless, andThen}
 use Rattle.refusal.proofs.Replies.{joined, then-done, held}
 use Rattle.refusal.proofs.Tests.{and-left, and-right}
 
@@ -21,8 +21,3 @@ pub areas-done : (searched : Reply) (a m b n : ℕ) → andThen searched (unless
 areas-done searched a m b n e =
     let good = held (eqb a m && eqb b n) Length Done (then-done searched _ e) in
     (eqb-true a m (and-left (eqb a m) (eqb b n) good), eqb-true b n (and-right (eqb a m) (eqb b n) good))
-
--- what an answer holds where the call is refused does not count
-pub done-again : {X Y : Type 0} (r : Reply) (f : X → Y) (new none : X) (old : Y) → done r (f (done r new none)) old ≡ done r (f new) old
-done-again Done f new none old = refl
-done-again (Refused why) f new none old = refl

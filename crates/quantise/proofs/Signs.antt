@@ -13,7 +13,7 @@ use mir.ValLaws.{toZ-ofZ, toZ-pos}
 use Rattle.basis.specs.Parts.{above, below}
 use Rattle.basis.proofs.Bounds.{product-le}
 use Rattle.basis.proofs.Case.{either}
-use Rattle.basis.proofs.Parts.{ext, sides, size-parts, above-add, below-add, above-sub, below-sub, above-mul, below-mul, above-neg, below-neg, parts-fit}
+use Rattle.basis.proofs.Parts.{ext, sides, size-parts, above-add, below-add, above-sub, below-sub, above-mul, below-mul, above-neg, below-neg, parts-fit, difference-high}
 use Rattle.basis.proofs.Signed.{lt-true, lt-false}
 use Rattle.refusal.specs.Test.{inRange}
 use Rattle.refusal.proofs.Tests.{range-low, range-high}
@@ -49,45 +49,31 @@ module _ (low high z : ℤ) where
       by false e true f = absurd (omega (arith, lt-true high z f))
       by false e false f = refl
 
--- x moved toward 0 by d, from below and from above
-up-is : (a d : ℕ) → suc a ≤ 32768 → cutTo (negsuc 32767) (pos 0) (negsuc a +ℤ pos d) ≡ negℤ (pos (suc a - d))
-up-is a d h =
-    let z = negsuc a +ℤ pos d in
-    let p = above-add (negsuc a) (pos d) in
-    let n = below-add (negsuc a) (pos d) in
-    either _ (suc a) d
-    (λ k. cut-high (negsuc 32767) (pos 0) z (omega arith) (omega arith) ∙ ap (λ (m : ℕ). negℤ (pos m)) (none k))
-    (λ k. cut-none (negsuc 32767) (pos 0) z (omega arith) (omega arith) ∙ ext z (negℤ (pos (suc a - d))) (p ∙ omega (arith, above-neg (pos (suc a - d)))) (n ∙ omega (arith, below-neg (pos (suc a - d)))))
-  where
-    none : suc a ≤ d → 0 ≡ suc a - d
-    none k = omega arith
-
-down-is : (a d : ℕ) → a ≤ 32768 → cutTo (pos 0) (pos 32768) (pos a -ℤ pos d) ≡ pos (a - d)
-down-is a d h =
-    let z = pos a -ℤ pos d in
-    let p = above-sub (pos a) (pos d) in
-    let n = below-sub (pos a) (pos d) in
+-- x less what of it lies within d on either side: x moved toward 0 by d
+pub toward-is : (x : ℤ) (d : ℕ) → x -ℤ cutTo (negℤ (pos d)) (pos d) x ≡ signed x (natAbs x - d)
+toward-is (pos a) d =
+    let up = above-neg (pos d) in
+    let down = below-neg (pos d) in
     either _ a d
-    (λ k. cut-low (pos 0) (pos 32768) z (omega arith) (omega arith) ∙ ap pos (none k))
-    (λ k. cut-none (pos 0) (pos 32768) z (omega arith) (omega arith) ∙ ext z (pos (a - d)) (p ∙ omega arith) (n ∙ omega arith))
+    (λ k. ap (λ (z : ℤ). pos a -ℤ z) (cut-none (negℤ (pos d)) (pos d) (pos a) (omega arith) (omega arith)) ∙ difference-high a a (omega arith) ∙ ap pos (none k))
+    (λ k. ap (λ (z : ℤ). pos a -ℤ z) (cut-high (negℤ (pos d)) (pos d) (pos a) (omega arith) (omega arith)) ∙ difference-high a d (omega arith))
   where
-    none : a ≤ d → 0 ≡ a - d
+    none : a ≤ d → a - a ≡ a - d
     none k = omega arith
-
-module _ (x : ℤ) (d : ℕ) (small : natAbs x ≤ 32768) where
-  pub up-fits : d ≤ 8192 → SFits w32 (x +ℤ pos d)
-  up-fits h = parts-fit (x +ℤ pos d) (omega (arith, above-add x (pos d), size-parts x)) (omega (arith, below-add x (pos d), size-parts x))
-
-  pub down-fits : d ≤ 8192 → SFits w32 (x -ℤ pos d)
-  down-fits h = parts-fit (x -ℤ pos d) (omega (arith, above-sub x (pos d), size-parts x)) (omega (arith, below-sub x (pos d), size-parts x))
-
-pub toward-up : (x : ℤ) (d : ℕ) → natAbs x ≤ 32768 → ltZ x (pos 0) ≡ true → cutTo (negsuc 32767) (pos 0) (x +ℤ pos d) ≡ signed x (natAbs x - d)
-toward-up (pos a) d h t = absurd (omega (arith, lt-true (pos a) (pos 0) t))
-toward-up (negsuc a) d h t = up-is a d h
-
-pub toward-down : (x : ℤ) (d : ℕ) → natAbs x ≤ 32768 → ltZ x (pos 0) ≡ false → cutTo (pos 0) (pos 32768) (x -ℤ pos d) ≡ signed x (natAbs x - d)
-toward-down (pos a) d h t = down-is a d h
-toward-down (negsuc a) d h t = absurd (omega (arith, lt-false (negsuc a) (pos 0) t))
+toward-is (negsuc a) d =
+    let low = negℤ (pos d) in
+    let up = above-neg (pos d) in
+    let down = below-neg (pos d) in
+    let left = negℤ (pos (suc a - d)) in
+    let left-up = above-neg (pos (suc a - d)) in
+    let left-down = below-neg (pos (suc a - d)) in
+    either _ (suc a) d
+    (λ k.
+    ap (λ (z : ℤ). negsuc a -ℤ z) (cut-none low (pos d) (negsuc a) (omega arith) (omega arith))
+    ∙ ext (negsuc a -ℤ negsuc a) left (above-sub (negsuc a) (negsuc a) ∙ omega arith) (below-sub (negsuc a) (negsuc a) ∙ omega arith))
+    (λ k.
+    ap (λ (z : ℤ). negsuc a -ℤ z) (cut-low low (pos d) (negsuc a) (omega arith) (omega arith))
+    ∙ ext (negsuc a -ℤ low) left (above-sub (negsuc a) low ∙ omega arith) (below-sub (negsuc a) low ∙ omega arith))
 
 -- division toward 0 keeps the sign
 pub signed-quot : (f : ℤ) (m d : ℕ) → quotZ (signed f m) (pos d) ≡ signed f (m / d)

@@ -16,16 +16,13 @@ fn clamp(x: i32, low: i32, high: i32) -> i32
     }
 }
 
-// x moved toward 0 by d, and not past it.
+// x moved toward 0 by d, and not past it: less what of it lies within d on either side, which takes no branch on its sign.
 fn toward_zero(x: i32, d: u32) -> i32
     requires { ⌜ (natAbs x ≤ 32768) × (d ≤ 8192) ⌝ }
     ensures { λ r. ⌜ r ≡ signed x (natAbs x - d) ⌝ }
 {
-    if x < 0 {
-        clamp(x + d as i32, -32768, 0)
-    } else {
-        clamp(x - d as i32, 0, 32768)
-    }
+    let most = d as i32;
+    x - clamp(x, 0 - most, most)
 }
 
 pub fn quantise_method2_inter(f: i32, quantiser_scale: u32) -> i32

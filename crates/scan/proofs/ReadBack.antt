@@ -25,7 +25,7 @@ runsOf es = map (λ (e : Event). e .run) es
 abbrev valuesOf : List Event → List ℤ
 valuesOf es = map (λ (e : Event). e .level) es
 
-is-zero : (x : ℤ) → isZero x ≡ true → x ≡ pos 0
+pub is-zero : (x : ℤ) → isZero x ≡ true → x ≡ pos 0
 is-zero (pos n) e = ap pos (eqb-true n 0 e)
 is-zero (negsuc n) e = absurd (never (cc))
   where

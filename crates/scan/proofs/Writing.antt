@@ -1,20 +1,22 @@
 -- Writing events, a turn at a time: what holds of the areas after i levels, and that each kind of turn keeps it. Assumes nothing.
 use Prim.Native.Nat.{ℕ, zero, suc, _+_, _-_, _≤_, _<_, _^_}
+use native.Mathlib.Nat.{add-zero}
 use native.Mathlib.Numerals.{add-one}
 use native.Mathlib.Omega.{arith}
-use mathlib.Core.Bool.{Bool, true, false}
+use mathlib.Core.Bool.{Bool, true, false, cond}
 use mathlib.Core.List.{List, [], _∷_, _++_, map, append-nil}
 use mathlib.Core.Path.{_≡_, refl, sym, ap, _∙_}
 use lib.IntN.{ℤ, pos, negsuc}
 use lib.ListN.{length, drop, getD, set, replicate, length-append, length-map, drop-of-length-le, length-replicate, replicate-append-replicate}
-use lib.Seq.{drop-cons, append-snoc}
+use lib.Seq.{drop-cons, append-snoc, getD-set-other, set-getD, set-set}
 use lib.Signed.{mag}
 use mir.Syntax.{w32}
 use mir.Val.{ofZ}
 use borrow.Author.Tests.{eq-eqb, ne-eqb}
 use Rattle.basis.proofs.Case.{then, else}
 use Rattle.scan.specs.Event.{Event, isZero, eventsAfter, eventsOf, marks, area, runsArea, levelsArea}
-use Rattle.basis.proofs.Areas.{map-snoc, pad-length, pad-more}
+use Rattle.scan.proofs.ReadBack.{is-zero}
+use Rattle.basis.proofs.Areas.{map-snoc, pad-length, pad-more, pad-past}
 
 -- what  x == 0  says of a signed x, whose test is on its bits
 pub zero-bits : (z : ℤ) → mag z < 2 ^ 31 → ofZ w32 z ≡ 0 → isZero z ≡ true
@@ -86,6 +88,70 @@ module _ {levels : List ℤ} {runs : List ℕ} {values : List ℤ} {count run i 
         runs-are = stored (λ (v : Event). v .run) 0 runs (w .es) e count (omega arith) (w .counted) (w .runs-are);
         values-are = stored (λ (v : Event). v .level) (pos 0) values (w .es) e count (omega arith) (w .counted) (w .values-are);
       }
+
+-- a store of what is there already
+same-set : {X : Type 0} (l : List X) (k : ℕ) (v d : X) → getD l k d ≡ v → set l k v ≡ l
+same-set l k v d e = ap (set l k) (sym e) ∙ set-getD l k d
+
+-- equal areas and counts
+carried : {levels : List ℤ} {runs runs′ : List ℕ} {values values′ : List ℤ} {count count′ run i : ℕ} → runs ≡ runs′ → values ≡ values′ → count ≡ count′
+    → Written levels runs values count run i → Written levels runs′ values′ count′ run i
+carried p q r w =
+    record {
+      at = w .at;
+      room = omega (arith, w .room, r);
+      es = w .es;
+      told = w .told;
+      counted = sym r ∙ w .counted;
+      runs-are = sym p ∙ w .runs-are;
+      values-are = sym q ∙ w .values-are;
+    }
+
+-- a turn stores first and counts after, so that the first free place may hold a run that is no event's: with 0 there, all is as above
+module _
+    (levels : List ℤ) (runs : List ℕ) (values : List ℤ) (count run i : ℕ)
+    (full : length levels ≡ 64) (more : i < 64) (w : Written levels (set runs count 0) values count run i) where
+  abbrev level : ℤ
+  level = getD levels i (pos 0)
+
+  -- past the events both areas are 0
+  free-level : getD values count (pos 0) ≡ pos 0
+  free-level =
+      let es = map (λ (e : Event). e .level) (w .es) in
+      ap (λ (l : List ℤ). getD l count (pos 0)) (w .values-are)
+      ∙ pad-past es (64 - length es) count (pos 0) (omega (arith, w .counted, length-map (w .es) (λ (e : Event). e .level)))
+
+  free-run : getD (set runs count run) (count + 1) 0 ≡ 0
+  free-run =
+      let es = map (λ (e : Event). e .run) (w .es) in
+      let other : count + 1 ≡ count → ⊥ = λ e. omega arith in
+      getD-set-other runs count (count + 1) run 0 other
+      ∙ sym (getD-set-other runs count (count + 1) 0 0 other)
+      ∙ ap (λ (l : List ℕ). getD l (count + 1) 0) (w .runs-are)
+      ∙ pad-past es (64 - length es) (count + 1) 0 (omega (arith, w .counted, length-map (w .es) (λ (e : Event). e .run)))
+
+  -- what a turn leaves, by whether the level is 0
+  abbrev pub Left : Bool → Type 0
+  Left z =
+      let n = count + cond z 0 1 in
+      Written levels (set (set runs count run) n 0) (set values count level) n (cond z (run + 1) 0) (i + 1)
+
+  pub turn : Left (isZero level)
+  turn = by (isZero level) refl
+    where
+      by : (z : Bool) → isZero level ≡ z → Left z
+      by true e =
+          carried
+          (sym (set-set runs count run 0) ∙ ap (λ (n : ℕ). set (set runs count run) n 0) (sym (add-zero count)))
+          (sym (same-set values count level (pos 0) (free-level ∙ sym (is-zero level e))))
+          (sym (add-zero count))
+          (zero-turn full more w e)
+      by false e =
+          carried
+          (set-set runs count 0 run ∙ sym (same-set (set runs count run) (count + 1) 0 0 free-run))
+          refl
+          refl
+          (level-turn full more w e)
 
 module _ {levels : List ℤ} {runs : List ℕ} {values : List ℤ} {count run i : ℕ} (w : Written levels runs values count run i) where
   pub run-room : run + count ≤ i

@@ -1,9 +1,10 @@
 // The events of a block's levels in scan order, written into three lent areas.
 ghost use mathlib.Core.Path.{_≡_};
-ghost use Prim.Native.Nat.{_≤_};
+ghost use mathlib.Core.Bool.{cond};
+ghost use Prim.Native.Nat.{_+_, _≤_, _<_};
 ghost use lib.IntN.{pos};
 ghost use lib.ListN.{length, replicate};
-ghost use Rattle.scan.specs.Event.{eventsOf, marks, area, lastsArea, runsArea, levelsArea};
+ghost use Rattle.scan.specs.Event.{isZero, eventsOf, marks, area, lastsArea, runsArea, levelsArea};
 
 fn clear_bytes(bytes: &mut [u8])
     requires { ⌜ length (now bytes) ≡ 64 ⌝ }
@@ -23,7 +24,23 @@ fn clear_levels(levels: &mut [i32])
     }
 }
 
-// Runs and levels into two cleared areas; the count of events.
+// How many events a level is.
+fn one_unless_zero(x: i32) -> usize
+    ensures { λ r. ⌜ (r ≡ cond (isZero x) 0 1) × (r ≤ 1) ⌝ }
+{
+    if x == 0 { 0 } else { 1 }
+}
+
+// The zeros since the last event, with one level more.
+fn run_after(run: u8, x: i32) -> u8
+    requires { ⌜ run < 64 ⌝ }
+    ensures { λ r. ⌜ r ≡ cond (isZero x) (run + 1) 0 ⌝ }
+{
+    if x == 0 { run + 1 } else { 0 }
+}
+
+// Runs and levels into two cleared areas; the count of events. Each level is stored before it is known to be an event's, so that no
+// branch waits for it; what is left at the first free place is cleared at the end.
 fn write_events(levels: &[i32], runs: &mut [u8], out_levels: &mut [i32]) -> usize
     requires { ⌜ length (now levels) ≡ 64 ⌝ }
     requires { ⌜ now runs ≡ replicate 64 0 ⌝ }
@@ -37,16 +54,14 @@ fn write_events(levels: &[i32], runs: &mut [u8], out_levels: &mut [i32]) -> usiz
     let mut i: usize = 0;
     while i < 64 {
         let x = levels[i];
-        if x == 0 {
-            run += 1;
-            i += 1;
-        } else {
-            runs[count] = run;
-            out_levels[count] = x;
-            count += 1;
-            run = 0;
-            i += 1;
-        }
+        runs[count] = run;
+        out_levels[count] = x;
+        count += one_unless_zero(x);
+        run = run_after(run, x);
+        i += 1;
+    }
+    if count < 64 {
+        runs[count] = 0;
     }
     count
 }

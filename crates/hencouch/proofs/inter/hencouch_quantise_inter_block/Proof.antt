@@ -11,7 +11,7 @@ use Rattle.scan.specs.declared.Events.{Events}
 use Rattle.reader.specs.Handed.{areas}
 use Rattle.coding.specs.Coding.{Quantising, quantisingOf, blockAreas, countOf}
 use Rattle.coding.specs.Reply.{codingReply}
-use Rattle.hencouch.proofs.Replies.{done-again}
+use Rattle.refusal.proofs.Replies.{done-again}
 use borrow.Author.Needs.{needs}
 use Rattle.hencouch.proofs.inter.hencouch_quantise_inter_block.Statement.{statement}
 use Rattle.hencouch.proofs.inter.hencouch_quantise_inter_block.Tie as tie

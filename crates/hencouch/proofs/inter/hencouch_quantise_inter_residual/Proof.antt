@@ -12,7 +12,7 @@ use Rattle.coding.specs.declared.Counted.{Counted}
 use Rattle.reader.specs.Handed.{areas}
 use Rattle.coding.specs.Coding.{Quantising, quantisingOf, areasOf, countsOf}
 use Rattle.coding.specs.Reply.{codingReply}
-use Rattle.hencouch.proofs.Replies.{done-again}
+use Rattle.refusal.proofs.Replies.{done-again}
 use borrow.Author.Needs.{needs}
 use Rattle.hencouch.proofs.inter.hencouch_quantise_inter_residual.Statement.{statement}
 use Rattle.hencouch.proofs.inter.hencouch_quantise_inter_residual.Tie as tie

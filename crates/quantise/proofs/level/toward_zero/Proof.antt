@@ -1,72 +1,50 @@
 -- `quantise::level::toward_zero` meets its contract. Assumes nothing.
+use Prim.Native.Nat.{_-_, _<_, _^_}
 use native.Mathlib.Omega.{arith}
-use mathlib.Core.Path.{_≡_, sym, ap, ap₂, subst, _∙_}
-use lib.IntN.{ℤ, pos, negsuc, _+ℤ_, _-ℤ_}
-use lib.Signed.{ltZ}
+use mathlib.Core.Path.{_≡_, sym, ap₂, subst, _∙_}
+use lib.IntN.{pos, negℤ, natAbs, _-ℤ_}
 use mir.Syntax.{w32}
 use mir.Val.{SFits, toZ, ofZ}
 use mir.ValLaws.{toZ-ofZ, toZ-pos}
-use Rattle.basis.proofs.Signed.{of-bits}
-use Rattle.quantise.specs.Level.{cutTo}
-use Rattle.quantise.proofs.Signs.{up-fits, down-fits, toward-up, toward-down}
+use Rattle.basis.proofs.Signed.{of-bits, negative-fits, negative-read}
+use Rattle.quantise.specs.Level.{signed, cutTo}
+use Rattle.quantise.proofs.Signs.{signed-fits, toward-is}
 use borrow.Author.Needs.{needs}
 use Rattle.quantise.proofs.level.toward_zero.Statement.{statement}
 use Rattle.quantise.proofs.level.toward_zero.Tie as tie
 
--- the two numbers, as the machine reads them
-x-is : (s : tie.Start) → toZ w32 (ofZ w32 (s .args .x)) ≡ s .args .x
-x-is s = toZ-ofZ w32 (s .args .x) (s .fits .x)
-
-d-is : (s : tie.Start) → toZ w32 (s .args .d) ≡ pos (s .args .d)
-d-is s = toZ-pos w32 (s .args .d) (omega (arith, s .pre .1))
-
-cast-clamp : tie.Need-cast-clamp
-cast-clamp c = search needs
-
-add-clamp : tie.Need-add-clamp
-add-clamp c =
+-- what is taken off, and what is left
+off : (c : tie.After-clamp) → let a = c .before .args in toZ w32 (ofZ w32 (c .clamp .result)) ≡ cutTo (negℤ (pos (a .d))) (pos (a .d)) (a .x)
+off c =
     let s = c .before in
-    subst (SFits w32) (sym (ap₂ _+ℤ_ (x-is s) (d-is s))) (up-fits (s .args .x) (s .args .d) (s .pre .0) (s .pre .1))
+    let small : s .args .d < 2 ^ 31 = omega (arith, s .pre .1) in
+    let x-is = toZ-ofZ w32 (s .args .x) (s .fits .x) in
+    of-bits _ (c .clamp .ok)
+    ∙ c .clamp .ensures
+    ∙ (λ i. cutTo (negative-read (s .args .d) small i) (toZ-pos w32 (s .args .d) small i) (x-is i))
+
+left-is : (c : tie.After-clamp) → let a = c .before .args in
+    toZ w32 (ofZ w32 (a .x)) -ℤ toZ w32 (ofZ w32 (c .clamp .result)) ≡ signed (a .x) (natAbs (a .x) - a .d)
+left-is c =
+    let s = c .before in
+    ap₂ _-ℤ_ (toZ-ofZ w32 (s .args .x) (s .fits .x)) (off c) ∙ toward-is (s .args .x) (s .args .d)
+
+cast-most : tie.Need-cast-most
+cast-most c = search needs
+
+sub-clamp : tie.Need-sub-clamp
+sub-clamp c = negative-fits (c .args .d) (omega (arith, c .pre .1))
 
 clamp-requires : tie.Need-clamp-requires
 clamp-requires c κs = search needs
 
-cast-clamp-2 : tie.Need-cast-clamp-2
-cast-clamp-2 c = search needs
-
-sub-clamp : tie.Need-sub-clamp
-sub-clamp c =
+sub-result : tie.Need-sub-result
+sub-result c =
     let s = c .before in
-    subst (SFits w32) (sym (ap₂ _-ℤ_ (x-is s) (d-is s))) (down-fits (s .args .x) (s .args .d) (s .pre .0) (s .pre .1))
-
-clamp-requires-2 : tie.Need-clamp-requires-2
-clamp-requires-2 c κs = search needs
+    subst (SFits w32) (sym (left-is c)) (signed-fits (s .args .x) (natAbs (s .args .x) - s .args .d) (omega (arith, s .pre .0)))
 
 returns : tie.Need-returns
-returns c =
-    let s = c .before .before in
-    of-bits _ (c .clamp .ok)
-    ∙ c .clamp .ensures
-    ∙ ap (cutTo (negsuc 32767) (pos 0)) (toZ-ofZ w32 _ (add-clamp (c .before)) ∙ ap₂ _+ℤ_ (x-is s) (d-is s))
-    ∙ toward-up (s .args .x) (s .args .d) (s .pre .0) (sym (ap (λ (z : ℤ). ltZ z (pos 0)) (x-is s)) ∙ c .before .if1 .taken)
-
-returns-2 : tie.Need-returns-2
-returns-2 c =
-    let s = c .before .before in
-    of-bits _ (c .clamp2 .ok)
-    ∙ c .clamp2 .ensures
-    ∙ ap (cutTo (pos 0) (pos 32768)) (toZ-ofZ w32 _ (sub-clamp (c .before)) ∙ ap₂ _-ℤ_ (x-is s) (d-is s))
-    ∙ toward-down (s .args .x) (s .args .d) (s .pre .0) (sym (ap (λ (z : ℤ). ltZ z (pos 0)) (x-is s)) ∙ c .before .if1 .left)
+returns c = toZ-ofZ w32 _ (sub-result c) ∙ left-is c
 
 pub toward-zero-spec : {M : Type 1} → statement M
-toward-zero-spec =
-    tie.close
-    (tie.spec
-    cast-clamp
-    add-clamp
-    clamp-requires
-    cast-clamp-2
-    sub-clamp
-    clamp-requires-2
-    returns
-    returns-2)
+toward-zero-spec = tie.close (tie.spec cast-most sub-clamp clamp-requires sub-result returns)
