@@ -265,6 +265,51 @@ uint8_t hencouch_code_macroblock(
     int32_t vector[2], uint32_t *sum, int32_t four_vectors[8], uint32_t four_sums[4],
     uint8_t patterns[2], uint8_t counts[6]);
 
+/*
+ * Starts a picture's run: its macroblocks one after the other, row by row, a step for each. The run
+ * is five numbers, which the caller keeps: width, height, the macroblocks given, their events and
+ * their vectors' sums. Whatever they are, each call answers as is said here; a number that would
+ * reach 2^64 goes on from 0.
+ *
+ * Refused:
+ *    6  width or height not 1..4096
+ */
+uint8_t hencouch_open(size_t width, size_t height, uint64_t run[5]);
+
+/*
+ * Searches for the run's next macroblock and codes its residual, as hencouch_code_macroblock does
+ * at column run[2] % C and row run[2] / C, C being run[0] over 16, rounded up; the other arguments
+ * are as above. The run is then one macroblock further.
+ *
+ * Refused:
+ *   21  after the last macroblock: run[2] not below the macroblocks of run[0] x run[1] samples
+ *   22  width not run[0] or height not run[1]
+ *    1, 2, 3, 4, 5, 6, 7, 10, 11, 12, 14  as above, after 21 and 22
+ */
+uint8_t hencouch_step(
+    uint64_t run[5],
+    uint32_t fcode, uint32_t mode, uint32_t bits_per_pixel, uint32_t quantiser,
+    uint8_t first_method, uint32_t vectors, uint32_t scan,
+    const uint8_t *reference, size_t reference_len,
+    size_t ref_width, size_t ref_height, size_t stride,
+    const uint8_t *y, size_t y_len, const uint8_t *cb, size_t cb_len,
+    const uint8_t *cr, size_t cr_len, size_t width, size_t height,
+    const uint8_t *weights, size_t weights_len,
+    const uint8_t *pred_y, size_t pred_y_len, const uint8_t *pred_cb, size_t pred_cb_len,
+    const uint8_t *pred_cr, size_t pred_cr_len,
+    uint8_t *lasts, size_t lasts_len, uint8_t *runs, size_t runs_len,
+    int32_t *levels, size_t levels_len,
+    int32_t vector[2], uint32_t *sum, int32_t four_vectors[8], uint32_t four_sums[4],
+    uint8_t patterns[2], uint8_t counts[6]);
+
+/*
+ * The totals of a run at its end: macroblocks, events, sums. The run is only read.
+ *
+ * Refused:
+ *   23  before the last macroblock: run[2] below the macroblocks of run[0] x run[1] samples
+ */
+uint8_t hencouch_close(const uint64_t run[5], uint64_t totals[3]);
+
 #ifdef __cplusplus
 }
 #endif

@@ -2,6 +2,7 @@
 
 mod macroblock;
 mod raw;
+mod run;
 mod search;
 
 pub use macroblock::{
@@ -12,6 +13,7 @@ pub use raw::{
     forward_dct_8x8, forward_scan, inter_cbp, inverse_block, inverse_scan, levels_to_events,
     quantise_block,
 };
+pub use run::{close, open, step, Run, Totals};
 pub use search::{estimate_motion, estimate_motion_4mv, Search, Source};
 
 /// A reference plane as the library takes it: samples and geometry, unchecked.

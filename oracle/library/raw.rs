@@ -86,3 +86,19 @@ entry!(code_macroblock = hencouch_code_macroblock {
     vector: &mut [i32; 2], sum: &mut u32, four_vectors: &mut [i32; 8], four_sums: &mut [u32; 4],
     patterns: &mut [u8; 2], counts: &mut [u8; 6],
 });
+
+entry!(open = hencouch_open { width: usize, height: usize, run: &mut [u64; 5] });
+
+entry!(step = hencouch_step {
+    run: &mut [u64; 5],
+    fcode: u32, mode: u32, bits_per_pixel: u32, quantiser: u32, first_method: u8,
+    vectors: u32, scan: u32,
+    reads reference: u8, ref_width: usize, ref_height: usize, stride: usize,
+    reads y: u8, reads cb: u8, reads cr: u8, width: usize, height: usize,
+    reads weights: u8, reads pred_y: u8, reads pred_cb: u8, reads pred_cr: u8,
+    writes lasts: u8, writes runs: u8, writes levels: i32,
+    vector: &mut [i32; 2], sum: &mut u32, four_vectors: &mut [i32; 8], four_sums: &mut [u32; 4],
+    patterns: &mut [u8; 2], counts: &mut [u8; 6],
+});
+
+entry!(close = hencouch_close { run: &[u64; 5], totals: &mut [u64; 3] });

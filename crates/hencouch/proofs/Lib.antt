@@ -1,3 +1,4 @@
 pub mod Places
 pub mod Records
 pub mod Replies
+pub mod Runs

@@ -1,4 +1,5 @@
 mod Accepted
 mod Answers
+pub mod Placed
 mod Sums
 pub mod Demanded

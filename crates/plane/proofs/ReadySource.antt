@@ -21,7 +21,7 @@ use Rattle.plane.specs.declared.SourceSize.{SourceSize}
 use Rattle.plane.specs.declared.MacroblockPlace.{MacroblockPlace}
 use Rattle.plane.specs.Held.{Held}
 use Rattle.plane.specs.Reference.{lengthReply}
-use Rattle.plane.specs.Source.{chromaSize, packed, sourceSideReply, holds, placeReply, lumaReply, chromaReply, sourceReply, lumaBlock, chromaBlock, lumaBlockReply, chromaBlockReply}
+use Rattle.plane.specs.Source.{chromaSize, packed, sourceSideReply, holds, macroblocksOf, placeReply, lumaReply, chromaReply, sourceReply, lumaBlock, chromaBlock, lumaBlockReply, chromaBlockReply}
 use Rattle.plane.proofs.Ready.{length-done}
 
 -- a plane without columns, and one that has some
@@ -65,14 +65,14 @@ sides-are s e =
 
 -- a macroblock of the source
 pub record InSource (s : SourceSize) (at : MacroblockPlace) : Type 0 where
-  pub column : at .column < (s .width + 15) / 16
-  pub row : at .row < (s .height + 15) / 16
+  pub column : at .column < macroblocksOf (s .width)
+  pub row : at .row < macroblocksOf (s .height)
 
 pub in-source : (s : SourceSize) (at : MacroblockPlace) → placeReply s at ≡ Done → InSource s at
 unfolding placeReply
 in-source s at e =
-    let c = ltb (at .column) ((s .width + 15) / 16) in
-    let r = ltb (at .row) ((s .height + 15) / 16) in
+    let c = ltb (at .column) (macroblocksOf (s .width)) in
+    let r = ltb (at .row) (macroblocksOf (s .height)) in
     let t = held (c && r) Place Done e in
     record { column = ltb-true _ _ (and-left c r t); row = ltb-true _ _ (and-right c r t) }
 

@@ -35,9 +35,13 @@ sourceSideReply s = unless (between 1 4096 (s .width) && between 1 4096 (s .heig
 abbrev pub holds : SourceSize → ℕ → Bool
 holds s n = leb (s .width * s .height) n
 
+-- how many macroblocks cover a side: it over 16, rounded up
+abbrev pub macroblocksOf : ℕ → ℕ
+macroblocksOf side = (side + 15) / 16
+
 -- 8: a column or row at or above the source's side over 16, rounded up
 unfoldable pub placeReply : SourceSize → MacroblockPlace → Reply
-placeReply s at = unless (ltb (at .column) ((s .width + 15) / 16) && ltb (at .row) ((s .height + 15) / 16)) Place Done
+placeReply s at = unless (ltb (at .column) (macroblocksOf (s .width)) && ltb (at .row) (macroblocksOf (s .height))) Place Done
 
 -- 6, 7, 8 where luma alone is handed in, where one chroma plane is, and where all three are
 unfoldable pub lumaReply : SourceSize → ℕ → MacroblockPlace → Reply

@@ -8,7 +8,7 @@ ghost use Rattle.basis.specs.Lists.{raster};
 ghost use Rattle.refusal.specs.Reply.{done};
 ghost use Rattle.plane.specs.Plane.{copied};
 ghost use Rattle.plane.specs.Held.{Held};
-ghost use Rattle.plane.specs.Source.{halved, chromaSize, packed, sourceSideReply, holds, placeReply, lumaReply, chromaReply, sourceReply, lumaBlock, chromaBlock, lumaBlockReply, chromaBlockReply};
+ghost use Rattle.plane.specs.Source.{halved, chromaSize, packed, sourceSideReply, holds, macroblocksOf, placeReply, lumaReply, chromaReply, sourceReply, lumaBlock, chromaBlock, lumaBlockReply, chromaBlockReply};
 use crate::Geometry;
 use crate::MacroblockPlace;
 use crate::Point;
@@ -32,8 +32,8 @@ fn chroma_size(size: SourceSize) -> SourceSize
 }
 
 // How many macroblocks cover a side.
-fn macroblocks(side: usize) -> usize
-    ensures { λ r. ⌜ r ≡ (side + 15) / 16 ⌝ }
+pub fn macroblocks(side: usize) -> usize
+    ensures { λ r. ⌜ r ≡ macroblocksOf side ⌝ }
 {
     side / 16 + (side % 16 + 15) / 16
 }
@@ -49,7 +49,7 @@ fn holds(size: SourceSize, n: usize) -> bool
 }
 
 // 6
-fn side_reply(size: SourceSize) -> Reply
+pub fn source_side_reply(size: SourceSize) -> Reply
     ensures { λ r. ⌜ r ≡ sourceSideReply size ⌝ }
 {
     refusal::unless(
@@ -84,7 +84,7 @@ pub fn luma_reply(size: SourceSize, y: usize, place: MacroblockPlace) -> Reply
         Refusal::SourcePlane,
         place_reply(size, place),
     );
-    refusal::and_then(side_reply(size), last)
+    refusal::and_then(source_side_reply(size), last)
 }
 
 // 6, 7 for one chroma plane, 8.
@@ -96,7 +96,7 @@ pub fn chroma_reply(size: SourceSize, chroma: usize, place: MacroblockPlace) -> 
         Refusal::SourcePlane,
         place_reply(size, place),
     );
-    refusal::and_then(side_reply(size), last)
+    refusal::and_then(source_side_reply(size), last)
 }
 
 // 6, 7 for all three planes, 8.
@@ -115,7 +115,7 @@ pub fn source_reply(
         refusal::both(holds(small, cb), holds(small, cr)),
     );
     let last = refusal::unless(planes, Refusal::SourcePlane, place_reply(size, place));
-    refusal::and_then(side_reply(size), last)
+    refusal::and_then(source_side_reply(size), last)
 }
 
 // The block of `side` columns and rows that is the macroblock's in a plane of this size.

@@ -1,7 +1,9 @@
 // What coder and reader both hold: a motion vector, and the record of a macroblock.
 ghost use mathlib.Core.Path.{_≡_};
 ghost use Rattle.record.specs.Zero.{zeroVector, noRecord};
+ghost use Prim.Native.Nat.{_<_};
 ghost use Rattle.record.specs.Pattern.{worth, isCoded};
+ghost use Rattle.record.specs.Count.{eventsIn, fourTotal};
 
 // In half or quarter samples, as the mode has it.
 pub struct MotionVector {
@@ -67,4 +69,31 @@ pub fn is_coded(given: Record, block: usize) -> bool
         return given.luma_pattern & mask != 0;
     }
     given.chroma_pattern & mask != 0
+}
+
+fn wide8(n: u8) -> u64
+    ensures { λ r. ⌜ (r ≡ n) × (r < 256) ⌝ }
+{
+    n as u64
+}
+
+fn wide32(n: u32) -> u64
+    ensures { λ r. ⌜ (r ≡ n) × (r < 4294967296) ⌝ }
+{
+    n as u64
+}
+
+// The events of a macroblock's six blocks.
+pub fn event_count(counts: [u8; 6]) -> u64
+    ensures { λ r. ⌜ r ≡ eventsIn counts ⌝ }
+{
+    let luma = wide8(counts[0]) + wide8(counts[1]) + wide8(counts[2]) + wide8(counts[3]);
+    luma + wide8(counts[4]) + wide8(counts[5])
+}
+
+// The total of the four vectors' sums.
+pub fn four_total(sums: [u32; 4]) -> u64
+    ensures { λ r. ⌜ r ≡ fourTotal sums ⌝ }
+{
+    wide32(sums[0]) + wide32(sums[1]) + wide32(sums[2]) + wide32(sums[3])
 }

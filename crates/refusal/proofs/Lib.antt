@@ -1,4 +1,5 @@
 pub mod Every
+pub mod Others
 pub mod Product
 pub mod Replies
 pub mod Tests

@@ -19,8 +19,8 @@ place-reply-requires c κs = search needs
 unless-requires : tie.Need-unless-requires
 unless-requires c κs = search needs
 
-side-reply-requires : tie.Need-side-reply-requires
-side-reply-requires c κs = search needs
+source-side-reply-requires : tie.Need-source-side-reply-requires
+source-side-reply-requires c κs = search needs
 
 and-then-requires : tie.Need-and-then-requires
 and-then-requires c κs = search needs
@@ -32,7 +32,7 @@ returns c =
     let u = s .before in
     let p = u .before in
     let h = p .before in
-    judging (c .and-then .ensures) (s .side-reply .ensures) (u .unless .ensures)
+    judging (c .and-then .ensures) (s .source-side-reply .ensures) (u .unless .ensures)
     (h .holds .ensures ∙ ap (λ (z : SourceSize). holds z (h .before .before .args .chroma)) (h .before .chroma-size .ensures))
     (p .place-reply .ensures)
 
@@ -44,6 +44,6 @@ chroma-reply-spec =
     holds-requires
     place-reply-requires
     unless-requires
-    side-reply-requires
+    source-side-reply-requires
     and-then-requires
     returns)

@@ -14,8 +14,8 @@ place-reply-requires c κs = search needs
 unless-requires : tie.Need-unless-requires
 unless-requires c κs = search needs
 
-side-reply-requires : tie.Need-side-reply-requires
-side-reply-requires c κs = search needs
+source-side-reply-requires : tie.Need-source-side-reply-requires
+source-side-reply-requires c κs = search needs
 
 and-then-requires : tie.Need-and-then-requires
 and-then-requires c κs = search needs
@@ -26,7 +26,7 @@ returns c =
     let s = c .before in
     let u = s .before in
     let p = u .before in
-    judging (c .and-then .ensures) (s .side-reply .ensures) (u .unless .ensures) (p .before .holds .ensures) (p .place-reply .ensures)
+    judging (c .and-then .ensures) (s .source-side-reply .ensures) (u .unless .ensures) (p .before .holds .ensures) (p .place-reply .ensures)
 
 pub luma-reply-spec : {M : Type 1} → statement M
 luma-reply-spec =
@@ -35,6 +35,6 @@ luma-reply-spec =
     holds-requires
     place-reply-requires
     unless-requires
-    side-reply-requires
+    source-side-reply-requires
     and-then-requires
     returns)

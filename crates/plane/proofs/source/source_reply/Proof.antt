@@ -47,8 +47,8 @@ place-reply-requires c κs = search needs
 unless-requires : tie.Need-unless-requires
 unless-requires c κs = search needs
 
-side-reply-requires : tie.Need-side-reply-requires
-side-reply-requires c κs = search needs
+source-side-reply-requires : tie.Need-source-side-reply-requires
+source-side-reply-requires c κs = search needs
 
 and-then-requires : tie.Need-and-then-requires
 and-then-requires c κs = search needs
@@ -59,7 +59,7 @@ returns c =
     let s = c .before in
     let u = s .before in
     let p = u .before in
-    judging (c .and-then .ensures) (s .side-reply .ensures) (u .unless .ensures) (planes (p .before)) (p .place-reply .ensures)
+    judging (c .and-then .ensures) (s .source-side-reply .ensures) (u .unless .ensures) (planes (p .before)) (p .place-reply .ensures)
 
 pub source-reply-spec : {M : Type 1} → statement M
 source-reply-spec =
@@ -73,6 +73,6 @@ source-reply-spec =
     both-requires-2
     place-reply-requires
     unless-requires
-    side-reply-requires
+    source-side-reply-requires
     and-then-requires
     returns)

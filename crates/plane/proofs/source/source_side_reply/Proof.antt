@@ -1,8 +1,8 @@
--- `plane::source::side_reply` meets its contract. Assumes nothing.
+-- `plane::source::source_side_reply` meets its contract. Assumes nothing.
 use Rattle.plane.specs.Source.{sourceSideReply}
 use borrow.Author.Needs.{needs}
-use Rattle.plane.proofs.source.side_reply.Statement.{statement}
-use Rattle.plane.proofs.source.side_reply.Tie as tie
+use Rattle.plane.proofs.source.source_side_reply.Statement.{statement}
+use Rattle.plane.proofs.source.source_side_reply.Tie as tie
 
 between-requires : tie.Need-between-requires
 between-requires c κs = search needs
@@ -20,6 +20,6 @@ returns : tie.Need-returns
 unfolding sourceSideReply
 returns c = cc
 
-pub side-reply-spec : {M : Type 1} → statement M
-side-reply-spec =
+pub source-side-reply-spec : {M : Type 1} → statement M
+source-side-reply-spec =
     tie.close (tie.spec between-requires between-requires-2 both-requires unless-requires returns)

@@ -1,4 +1,4 @@
--- `hencouch::whole::vectors_area` meets its contract. Assumes nothing.
+-- `hencouch::areas::vectors_area` meets its contract. Assumes nothing.
 use mathlib.Core.List.{[], _∷_}
 use mathlib.Core.Path.{ap, _∙_}
 use Rattle.basis.proofs.Signed.{of-bits}
@@ -6,8 +6,8 @@ use Rattle.record.specs.Zero.{zeroVector}
 use Rattle.hencouch.specs.Search.{vectorsArea}
 use Rattle.hencouch.proofs.Places.{four-elements}
 use borrow.Author.Needs.{needs}
-use Rattle.hencouch.proofs.whole.vectors_area.Statement.{statement}
-use Rattle.hencouch.proofs.whole.vectors_area.Tie as tie
+use Rattle.hencouch.proofs.areas.vectors_area.Statement.{statement}
+use Rattle.hencouch.proofs.areas.vectors_area.Tie as tie
 
 array-copy-out-a : tie.Need-array-copy-out-a
 array-copy-out-a c = search needs

@@ -1,4 +1,4 @@
--- `hencouch::whole::write_record` meets its contract. Assumes nothing.
+-- `hencouch::areas::write_record` meets its contract. Assumes nothing.
 use mathlib.Core.List.{List, [], _∷_}
 use mathlib.Core.Path.{sym, ap, ap₂, _∙_}
 use lib.IntN.{ℤ}
@@ -6,8 +6,8 @@ use Rattle.refusal.specs.declared.Reply.{Reply}
 use Rattle.refusal.specs.Reply.{done}
 use Rattle.hencouch.specs.Whole.{Written, written, writtenOf}
 use borrow.Author.Needs.{needs}
-use Rattle.hencouch.proofs.whole.write_record.Statement.{statement}
-use Rattle.hencouch.proofs.whole.write_record.Tie as tie
+use Rattle.hencouch.proofs.areas.write_record.Statement.{statement}
+use Rattle.hencouch.proofs.areas.write_record.Tie as tie
 
 module _ (s : tie.Start) where
   -- what the areas hold, by the reply

@@ -1,0 +1,62 @@
+// The areas that a macroblock's record is written into.
+ghost use mathlib.Core.Path.{_≡_};
+ghost use Rattle.refusal.specs.Reply.{done};
+ghost use Rattle.hencouch.specs.Search.{vectorArea, vectorsArea};
+ghost use Rattle.hencouch.specs.Whole.{written, writtenOf};
+use record::MotionVector;
+use record::Record;
+use refusal::Reply;
+
+// Horizontal, then vertical.
+fn vector_area(v: MotionVector) -> [i32; 2]
+    ensures { λ r. ⌜ r ≡ vectorArea v ⌝ }
+{
+    [v.x, v.y]
+}
+
+// Each vector's horizontal, then vertical.
+fn vectors_area(vs: [MotionVector; 4]) -> [i32; 8]
+    ensures { λ r. ⌜ r ≡ vectorsArea vs ⌝ }
+{
+    let a = vs[0];
+    let b = vs[1];
+    let c = vs[2];
+    let d = vs[3];
+    [a.x, a.y, b.x, b.y, c.x, c.y, d.x, d.y]
+}
+
+// A record into its areas, where there is one.
+pub fn write_record(
+    reply: Reply,
+    given: Record,
+    vector: &mut [i32; 2],
+    sum: &mut u32,
+    four_vectors: &mut [i32; 8],
+    four_sums: &mut [u32; 4],
+    patterns: &mut [u8; 2],
+    counts: &mut [u8; 6],
+)
+    ensures { λ _. ⌜ (
+        let old = written (now (vector .entry)) (now (sum .entry)) (now («four_vectors» .entry)) (now («four_sums» .entry))
+        (now (patterns .entry)) (now (counts .entry)) in
+        let new = written (now (vector .exit)) (now (sum .exit)) (now («four_vectors» .exit)) (now («four_sums» .exit))
+        (now (patterns .exit)) (now (counts .exit)) in
+        new ≡ done reply (writtenOf given) old
+        ) ⌝ }
+{
+    match reply {
+        Reply::Refused(_) => {}
+        Reply::Done => {
+            let one = given.vector;
+            let four = given.vectors;
+            let sums = given.sums;
+            let six = given.counts;
+            *vector = vector_area(one);
+            *sum = given.sum;
+            *four_vectors = vectors_area(four);
+            *four_sums = sums;
+            *patterns = [given.luma_pattern, given.chroma_pattern];
+            *counts = six;
+        }
+    }
+}

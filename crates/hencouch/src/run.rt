@@ -1,0 +1,216 @@
+// The picture run: a picture's macroblocks one after the other. A run is five numbers: width, height, macroblocks given, their events,
+// their one-vector sums.
+ghost use mathlib.Core.Bool.{not};
+ghost use mathlib.Core.Path.{_≡_};
+ghost use lib.Dec.{eqb};
+ghost use Rattle.refusal.specs.Number.{codeOf};
+ghost use Rattle.refusal.specs.Reply.{done};
+ghost use Rattle.reader.specs.Handed.{areas};
+ghost use Rattle.macroblock.specs.Request.{request};
+ghost use Rattle.picture.specs.Run.{openOf, nextPlace, stepOf, closeOf};
+ghost use Rattle.hencouch.specs.Numbers.{geometryOf, sizeOf, settingsOf};
+ghost use Rattle.hencouch.specs.Run.{runOf, runNumbers, totalsNumbers};
+ghost use Rattle.hencouch.specs.Whole.{written, writtenOf};
+use macroblock::Settings;
+use picture::Closed;
+use picture::Run;
+use plane::Geometry;
+use plane::SourceSize;
+use refusal::Reply;
+
+fn wide(n: usize) -> u64
+    ensures { λ r. ⌜ r ≡ n ⌝ }
+{
+    n as u64
+}
+
+fn side(n: u64) -> usize
+    ensures { λ r. ⌜ r ≡ n ⌝ }
+{
+    n as usize
+}
+
+fn run_of(numbers: [u64; 5]) -> Run
+    ensures { λ r. ⌜ r ≡ runOf numbers ⌝ }
+{
+    Run {
+        size: SourceSize {
+            width: side(numbers[0]),
+            height: side(numbers[1]),
+        },
+        macroblocks: numbers[2],
+        events: numbers[3],
+        sums: numbers[4],
+    }
+}
+
+// A run into its numbers, where there is a new one.
+fn write_run(reply: Reply, given: Run, run: &mut [u64; 5])
+    ensures { λ _. ⌜ now (run .exit) ≡ done reply (runNumbers given) (now (run .entry)) ⌝ }
+{
+    match reply {
+        Reply::Refused(_) => {}
+        Reply::Done => {
+            let size = given.size;
+            *run = [
+                wide(size.width),
+                wide(size.height),
+                given.macroblocks,
+                given.events,
+                given.sums,
+            ];
+        }
+    }
+}
+
+// The totals, where there are any, and the reply's number.
+fn write_totals(told: Closed, totals: &mut [u64; 3]) -> u8
+    ensures { λ r. ⌜ r ≡ codeOf (told .reply) ⌝ }
+    ensures { λ _. ⌜ now (totals .exit) ≡ done (told .reply) (totalsNumbers (told .totals)) (now (totals .entry)) ⌝ }
+{
+    let reply = told.reply;
+    match reply {
+        Reply::Refused(why) => refusal::number(why),
+        Reply::Done => {
+            let given = told.totals;
+            *totals = [given.macroblocks, given.events, given.sums];
+            0
+        }
+    }
+}
+
+// A run of which nothing is coded yet: 6.
+#[no_mangle]
+pub extern "C" fn hencouch_open(width: usize, height: usize, run: &mut [u64; 5]) -> u8
+    ensures { λ r. ⌜ (
+        let opened = openOf (sizeOf width height) in
+        (r ≡ codeOf (opened .reply))
+        × (now (run .exit) ≡ done (opened .reply) (runNumbers (opened .run)) (now (run .entry)))
+        ) ⌝ }
+{
+    let size = SourceSize { width, height };
+    let opened = picture::open(size);
+    let reply = opened.reply;
+    let given = opened.run;
+    write_run(reply, given, run);
+    refusal::code(reply)
+}
+
+// Searches for the run's next macroblock and codes it against a lent prediction: 21, 22, then 1, 2, 3, 4, 5, 6, 7, 10, 11, 12, 14.
+// Any first_method but 0 is the first method.
+#[no_mangle]
+pub extern "C" fn hencouch_step(
+    run: &mut [u64; 5],
+    fcode: u32,
+    mode: u32,
+    bpp: u32,
+    quantiser: u32,
+    first_method: u8,
+    vectors: u32,
+    scan: u32,
+    reference: &[u8],
+    ref_width: usize,
+    ref_height: usize,
+    stride: usize,
+    y: &[u8],
+    cb: &[u8],
+    cr: &[u8],
+    width: usize,
+    height: usize,
+    weights: &[u8],
+    pred_y: &[u8],
+    pred_cb: &[u8],
+    pred_cr: &[u8],
+    lasts: &mut [u8],
+    runs: &mut [u8],
+    levels: &mut [i32],
+    vector: &mut [i32; 2],
+    sum: &mut u32,
+    four_vectors: &mut [i32; 8],
+    four_sums: &mut [u32; 4],
+    patterns: &mut [u8; 2],
+    counts: &mut [u8; 6],
+) -> u8
+    ensures { λ r. ⌜ (
+        let settings = settingsOf fcode mode bpp quantiser (not (eqb «first_method» 0)) vectors scan in
+        let geometry = geometryOf «ref_width» «ref_height» stride in
+        let before = runOf (now (run .entry)) in
+        let q = request settings (now (reference .entry)) geometry
+        (now (y .entry)) (now (cb .entry)) (now (cr .entry)) (sizeOf width height) (nextPlace before)
+        (now (weights .entry)) (now («pred_y» .entry)) (now («pred_cb» .entry)) (now («pred_cr» .entry))
+        (now (lasts .entry)) (now (runs .entry)) (now (levels .entry)) in
+        let told = stepOf before q in
+        let coded = told .answer .coded in
+        let old = written (now (vector .entry)) (now (sum .entry)) (now («four_vectors» .entry)) (now («four_sums» .entry))
+        (now (patterns .entry)) (now (counts .entry)) in
+        let new = written (now (vector .exit)) (now (sum .exit)) (now («four_vectors» .exit)) (now («four_sums» .exit))
+        (now (patterns .exit)) (now (counts .exit)) in
+        (r ≡ codeOf (coded .reply))
+        × (now (run .exit) ≡ done (coded .reply) (runNumbers (told .run)) (now (run .entry)))
+        × (areas (now (lasts .exit)) (now (runs .exit)) (now (levels .exit)) ≡ told .answer .areas)
+        × (new ≡ done (coded .reply) (writtenOf (coded .«record»)) old)
+        ) ⌝ }
+{
+    let settings = Settings {
+        fcode,
+        mode,
+        bpp,
+        quantiser,
+        first_method: first_method != 0,
+        vectors,
+        scan,
+    };
+    let geometry = Geometry {
+        width: ref_width,
+        height: ref_height,
+        stride,
+    };
+    let size = SourceSize { width, height };
+    let before = run_of(*run);
+    let told = picture::step(
+        before,
+        settings,
+        reference,
+        geometry,
+        y,
+        cb,
+        cr,
+        size,
+        weights,
+        pred_y,
+        pred_cb,
+        pred_cr,
+        lasts,
+        runs,
+        levels,
+    );
+    let reply = told.reply;
+    let next = told.run;
+    let given = told.record;
+    write_run(reply, next, run);
+    crate::areas::write_record(
+        reply,
+        given,
+        vector,
+        sum,
+        four_vectors,
+        four_sums,
+        patterns,
+        counts,
+    );
+    refusal::code(reply)
+}
+
+// The totals of a run that is at its end, macroblocks, events and sums: 23.
+#[no_mangle]
+pub extern "C" fn hencouch_close(run: &[u64; 5], totals: &mut [u64; 3]) -> u8
+    ensures { λ r. ⌜ (
+        let closed = closeOf (runOf (now (run .entry))) in
+        (r ≡ codeOf (closed .reply))
+        × (now (totals .exit) ≡ done (closed .reply) (totalsNumbers (closed .totals)) (now (totals .entry)))
+        ) ⌝ }
+{
+    let before = run_of(*run);
+    let closed = picture::close(before);
+    write_totals(closed, totals)
+}

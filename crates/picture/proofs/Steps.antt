@@ -1,0 +1,96 @@
+-- A step's answer in its two cases, turned back because of the run or answered by the entry, and a run that goes on. Assumes nothing.
+use Prim.Native.Nat.{ℕ, _+_, _%_, _^_}
+use native.Mathlib.Omega.{arith}
+use mathlib.Core.Bool.{_&&_}
+use mathlib.Core.Path.{_≡_, refl, sym, ap, subst, _∙_}
+use lib.Dec.{eqb, ltb}
+use Rattle.refusal.specs.declared.Refusal.{Refusal}
+use Rattle.refusal.specs.declared.Refusal.the-variants.{AfterLast, OtherSize}
+use Rattle.refusal.specs.declared.Reply.{Reply}
+use Rattle.refusal.specs.declared.Reply.the-variants.{Done, Refused}
+use Rattle.refusal.specs.Number.{codeOf}
+use Rattle.refusal.specs.Reply.{done}
+use Rattle.refusal.proofs.Others.{Other, unless-other, done-other}
+use Rattle.record.specs.declared.Record.{Record}
+use Rattle.record.specs.Count.{eventsIn}
+use Rattle.record.specs.Zero.{noRecord}
+use Rattle.plane.specs.declared.SourceSize.{SourceSize}
+use Rattle.plane.specs.declared.MacroblockPlace.{MacroblockPlace}
+use Rattle.reader.specs.Handed.{Areas}
+use Rattle.macroblock.specs.Request.{Request}
+use Rattle.macroblock.specs.Answer.{Answer, answerOf}
+use Rattle.macroblock.specs.Demand.{Demand}
+use Rattle.macroblock.proofs.Placed.{placed as placed-request}
+use Rattle.picture.specs.declared.Run.{Run}
+use Rattle.picture.specs.Run.{macroblocksIn, nextPlace, runReply, after, unlessRun, StepAnswer, stepOf}
+use Rattle.picture.specs.Calls.{placed, asked}
+use Rattle.picture.proofs.Places.{step-inside}
+
+-- ---- an answer, and the run after it
+
+abbrev pub with-run : Answer → Run → StepAnswer
+with-run a n = record { answer = a; run = n }
+
+abbrev moved : Run → Answer → StepAnswer
+moved r a = with-run a (done (a .coded .reply) (after r (a .coded .«record»)) r)
+
+by-reply : (r : Run) (q : Request) (w : Reply) → runReply r (q .size) ≡ w → moved r (unlessRun w (answerOf q) (q .areas)) ≡ stepOf r q
+unfolding stepOf
+by-reply r q w e = ap (λ (x : Reply). moved r (unlessRun x (answerOf q) (q .areas))) (sym e)
+
+abbrev turned : Refusal → Record → Areas → Answer
+turned why g old = record { coded = record { reply = Refused why; «record» = g }; areas = old }
+
+-- turned back because of the run
+pub turned-back : (r : Run) (q : Request) (why : Refusal) (g : Record) → runReply r (q .size) ≡ Refused why → g ≡ noRecord
+    → with-run (turned why g (q .areas)) r ≡ stepOf r q
+turned-back r q why g e p = ap (λ (x : Record). with-run (turned why x (q .areas)) r) p ∙ by-reply r q (Refused why) e
+
+-- answered by the entry
+pub coded : (r : Run) (q : Request) (a : Answer) (n : Run) → runReply r (q .size) ≡ Done → a ≡ answerOf q
+    → n ≡ done (a .coded .reply) (after r (a .coded .«record»)) r → with-run a n ≡ stepOf r q
+coded r q a n e p m = ap (with-run a) m ∙ ap (moved r) p ∙ by-reply r q Done e
+
+-- a step that the run lets through is the entry's answer at the run's next place
+pub step-coded : (r : Run) (q : Request) → runReply r (q .size) ≡ Done → stepOf r (asked r q) .answer ≡ answerOf (asked r q)
+step-coded r q e = ap (λ (a : StepAnswer). a .answer) (sym (by-reply r (asked r q) Done e))
+
+-- 21 and 22 are other numbers than 8
+run-other : (r : Run) (s : SourceSize) → Other 8 (runReply r s)
+unfolding runReply
+run-other r s =
+    let same = eqb (r .size .width) (s .width) && eqb (r .size .height) (s .height) in
+    unless-other (ltb (r .macroblocks) (macroblocksIn (r .size))) AfterLast (λ e. omega arith)
+    (unless-other same OtherSize (λ e. omega arith) (done-other (omega arith)))
+
+-- 8 is never a step's reply
+pub step-never-8 : (r : Run) (q : Request) → codeOf (stepOf r (asked r q) .answer .coded .reply) ≡ 8 → ⊥
+unfolding stepOf answerOf
+step-never-8 r q = by (runReply r (q .size)) refl
+  where
+    by : (w : Reply) → runReply r (q .size) ≡ w → codeOf (unlessRun w (answerOf (asked r q)) (q .areas) .coded .reply) ≡ 8 → ⊥
+    by Done e h = placed-request (asked r q) (step-inside r (q .size) e) h
+    by (Refused why) e h = run-other r (q .size) .is-not (ap codeOf e ∙ h)
+
+-- the entry's promise at a place that is the run's next, as a step's
+pub promised : (r : Run) (q : Request) (at : MacroblockPlace) (a : Answer) (n : Run) → runReply r (q .size) ≡ Done → at ≡ nextPlace r
+    → (a ≡ answerOf (placed at q)) × (a .coded .reply ≡ Done → Demand 0 (placed at q) a)
+    → n ≡ done (a .coded .reply) (after r (a .coded .«record»)) r
+    → (with-run a n ≡ stepOf r (asked r q)) × (a .coded .reply ≡ Done → Demand 0 (asked r q) a)
+promised r q at a n e p t m = (
+  coded r (asked r q) a n e (t .0 ∙ ap (λ (x : MacroblockPlace). answerOf (placed x q)) p) m,
+  λ d. subst (λ (x : MacroblockPlace). Demand 0 (placed x q) a) p (t .1 d),
+)
+
+-- ---- the run with one record more
+
+abbrev pub counting : Run → ℕ → ℕ → ℕ → Run
+counting r n e s = record { size = r .size; macroblocks = n; events = e; sums = s }
+
+counting-is : (r : Run) {n n′ e e′ s s′ : ℕ} → n ≡ n′ → e ≡ e′ → s ≡ s′ → counting r n e s ≡ counting r n′ e′ s′
+counting-is r {n} {n′} {e} {e′} {s} {s′} p q t =
+    ap (λ (x : ℕ). counting r x e s) p ∙ ap (λ (x : ℕ). counting r n′ x s) q ∙ ap (counting r n′ e′) t
+
+pub went-on : (r : Run) (m : Record) (w : Reply) (n e s : ℕ) → w ≡ Done → n ≡ (r .macroblocks + 1) % 2 ^ 64
+    → e ≡ (r .events + eventsIn (m .counts)) % 2 ^ 64 → s ≡ (r .sums + m .sum) % 2 ^ 64 → counting r n e s ≡ done w (after r m) r
+went-on r m w n e s d p q t = counting-is r p q t ∙ ap (λ (x : Reply). done x (after r m) r) (sym d)
