@@ -8,6 +8,7 @@ ARGS :=
 LIBDIR := target/staticlib
 
 LIBRARY := $(LIBDIR)/libhencouch.a
+BROODLINE := target/bin/broodline
 SOURCES := $(wildcard crates.txt) $(shell find crates -path '*/src/*' -name '*.rt' 2>/dev/null)
 ORIGINALS := half_sample.rs quarter_sample.rs fdct.rs inverse_quant.rs quantise.rs scan.rs
 # Parts of files that as a whole want others that are not to be had.
@@ -24,18 +25,40 @@ SEARCH_CODE := search::sums::block
 PSADBW := 6
 RUST := rustc --edition 2021 -C opt-level=3 -C codegen-units=1 -L native=$(LIBDIR)
 
-.PHONY: help test staticlib compare bench machine-code call originals
+.PHONY: run sample help test staticlib compare bench machine-code call originals
 .NOTPARALLEL:
 
 help:
+	@echo 'make run                   broodline on a comb with two bees: a line a macroblock, in seconds'
 	@echo 'make test                  format check, then rt ci: the gate'
 	@echo 'make staticlib             the static library for C and Rust'
-	@echo 'make compare DOCS=FOLDER   the library against the original Rust, on random calls'
+	@echo 'make compare DOCS=FOLDER   the library and broodline against the original Rust, at random'
 	@echo 'make bench DOCS=FOLDER     the same two, timed side by side'
 	@echo 'make machine-code          whether the search sums by the instruction made for it'
+	@echo 'make sample                makes the clip of make run anew'
 	@echo 'make call                  a C program that calls the library three times'
 	@echo 'FOLDER has the originals as src/src/half_sample.rs and so on. ARGS="--seed N --valid N'
 	@echo '--refused N" gives compare another seed and other counts.'
+
+# The program as it was proved, where it was; else as rt try compiles it, three ways, which proves
+# nothing but compares what each writes with what is stored. (rt try's interpreter, its fourth way,
+# has too few steps for a search.)
+run:
+	@mkdir -p target/run
+	@if test -x $(BROODLINE); then \
+	  $(BROODLINE) < crates/broodline/stdin > target/run/lines; \
+	else \
+	  rt try broodline > target/run/tried 2>&1; \
+	  test "$$(grep -c '^ok: the native program' target/run/tried)" = 3 || { cat target/run/tried; exit 1; }; \
+	  cp crates/broodline/stdout target/run/lines; \
+	fi
+	@echo 'column  row  vector (horizontal, vertical)  sum  luma pattern  chroma pattern  events'
+	@cat target/run/lines
+
+sample:
+	mkdir -p target/run
+	$(CC) -std=c99 -Wall -Wextra -O2 -o target/run/comb oracle/comb.c
+	target/run/comb > crates/broodline/stdin
 
 test:
 	rt fmt --check
@@ -46,6 +69,9 @@ staticlib:
 
 target/staticlib/libhencouch.a: $(SOURCES)
 	rt staticlib hencouch
+
+$(BROODLINE): $(SOURCES)
+	rt check broodline
 
 # $(call cut,FILE,NAMES): the parts with these names, unchanged, each of which has to be there once.
 # A function, a struct and an impl block, whose name is impl:TYPE, end with their brace; a constant
@@ -74,13 +100,13 @@ originals:
 	cp $(ORIGINALS:%=$(DOCS)/src/src/%) target/oracle
 	$(foreach file,$(CUT_FILES),$(call cut,$(file),$(CUT_$(file))))
 
-compare: originals $(LIBRARY)
+compare: originals $(LIBRARY) $(BROODLINE)
 	$(RUST) -o target/oracle/compare target/oracle/compare.rs
-	target/oracle/compare $(ARGS)
+	target/oracle/compare --broodline $(BROODLINE) $(ARGS)
 
-bench: machine-code originals $(LIBRARY)
+bench: machine-code originals $(LIBRARY) $(BROODLINE)
 	$(RUST) -o target/oracle/bench target/oracle/bench.rs
-	target/oracle/bench
+	target/oracle/bench $(BROODLINE)
 
 # The sum of a block's differences is fast only while the compiler finds psadbw for it, which a
 # small change of the source can undo.

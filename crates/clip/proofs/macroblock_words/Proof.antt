@@ -1,0 +1,108 @@
+-- `clip::macroblock_words` meets its contract. Assumes nothing.
+use Prim.Native.Nat.{ℕ}
+use mathlib.Core.List.{List, [], _∷_, _++_}
+use mathlib.Core.Path.{_≡_, ap, ap₂, _∙_}
+use borrow.Author.Needs.{needs}
+use Rattle.clip.specs.declared.Text.{Text}
+use Rattle.clip.specs.Decimal.{decimal}
+use Rattle.clip.specs.Line.{spaced, joined, vectorWords, macroblockWords}
+use Rattle.clip.specs.Push.{noText, pushes}
+use Rattle.clip.proofs.Lines.{begun, joined-more}
+use Rattle.clip.proofs.macroblock_words.Statement.{statement}
+use Rattle.clip.proofs.macroblock_words.Tie as tie
+
+-- a word more, whose number is known
+more : {r u : Text} {n : ℕ} (m : ℕ) (w : List ℕ) (ws : List (List ℕ)) → r ≡ pushes u (spaced (decimal n ∷ [])) → n ≡ m
+    → u ≡ pushes noText (joined (w ∷ ws)) → r ≡ pushes noText (joined (w ∷ (ws ++ (decimal m ∷ []))))
+more {r} {u} m w ws e p f =
+    joined-more noText w ws (decimal m ∷ []) (e ∙ ap (λ (k : ℕ). pushes u (spaced (decimal k ∷ []))) p) f
+
+no-text-requires : tie.Need-no-text-requires
+no-text-requires c κs = search needs
+
+wide-requires : tie.Need-wide-requires
+wide-requires c κs = search needs
+
+number-requires : tie.Need-number-requires
+number-requires c κs = search needs
+
+wide-requires-2 : tie.Need-wide-requires-2
+wide-requires-2 c κs = search needs
+
+word-requires : tie.Need-word-requires
+word-requires c κs = search needs
+
+vector-words-requires : tie.Need-vector-words-requires
+vector-words-requires c κs = search needs
+
+wide32-requires : tie.Need-wide32-requires
+wide32-requires c κs = search needs
+
+word-requires-2 : tie.Need-word-requires-2
+word-requires-2 c κs = search needs
+
+wide8-requires : tie.Need-wide8-requires
+wide8-requires c κs = search needs
+
+word-requires-3 : tie.Need-word-requires-3
+word-requires-3 c κs = search needs
+
+wide8-requires-2 : tie.Need-wide8-requires-2
+wide8-requires-2 c κs = search needs
+
+word-requires-4 : tie.Need-word-requires-4
+word-requires-4 c κs = search needs
+
+event-count-requires : tie.Need-event-count-requires
+event-count-requires c κs = search needs
+
+word-requires-5 : tie.Need-word-requires-5
+word-requires-5 c κs = search needs
+
+returns : tie.Need-returns
+unfolding macroblockWords
+returns c =
+    let events = c .before in
+    let chroma = events .before in
+    let luma = chroma .before .before in
+    let summed = luma .before .before in
+    let moved = summed .before .before in
+    let place = moved .before in
+    let start = place .before .before in
+    let column = start .before in
+    let none = column .before in
+    let a = none .before .before .before .args in
+    let m = a .given in
+    let w = decimal (a .column) in
+    let v = decimal (a .row) ∷ vectorWords (m .vector) in
+    let p = v ++ (decimal (m .sum) ∷ []) in
+    let q = p ++ (decimal (m .«luma_pattern») ∷ []) in
+    more _ w (q ++ (decimal (m .«chroma_pattern») ∷ [])) (c .word5 .ensures) (events .event-count .ensures)
+    (more _ w q (chroma .word4 .ensures) (chroma .before .wide82 .ensures .0)
+    (more _ w p (luma .word3 .ensures) (luma .before .wide8 .ensures .0)
+    (more _ w v (summed .word2 .ensures) (summed .before .wide32 .ensures .0)
+    (joined-more noText w (decimal (a .row) ∷ []) (vectorWords (m .vector)) (moved .vector-words .ensures)
+    (more _ w [] (place .word .ensures) (place .before .wide2 .ensures)
+    (begun noText w
+    (start .number .ensures
+    ∙ ap₂ (λ (t : Text) (n : ℕ). pushes t (decimal n)) (none .no-text .ensures) (column .wide .ensures))))))))
+
+pub macroblock-words-spec : {M : Type 1} → statement M
+macroblock-words-spec =
+    tie.close
+    (tie.spec
+    no-text-requires
+    wide-requires
+    number-requires
+    wide-requires-2
+    word-requires
+    vector-words-requires
+    wide32-requires
+    word-requires-2
+    wide8-requires
+    word-requires-3
+    wide8-requires-2
+    word-requires-4
+    event-count-requires
+    word-requires-5
+    returns)

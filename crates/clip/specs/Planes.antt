@@ -1,0 +1,17 @@
+-- How many bytes the planes have that follow a header. Document 01, "Checked examples"; a chroma side is half, rounded up.
+use Prim.Native.Nat.{_+_, _*_, _/_}
+use Rattle.refusal.specs.Reply.{done}
+use Rattle.clip.specs.declared.Head.{Head}
+use Rattle.clip.specs.declared.Lengths.{Lengths}
+use Rattle.clip.specs.Header.{headReply}
+
+abbrev pub noLengths : Lengths
+noLengths = record { luma = 0; chroma = 0 }
+
+-- a luma plane, and a chroma plane
+abbrev pub planesOf : Head → Lengths
+planesOf h = record { luma = h .width * h .height; chroma = (h .width + 1) / 2 * ((h .height + 1) / 2) }
+
+-- none where the header is refused
+unfoldable pub lengthsOf : Head → Lengths
+lengthsOf h = done (headReply h) (planesOf h) noLengths
