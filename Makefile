@@ -25,12 +25,13 @@ SEARCH_CODE := search::sums::block
 PSADBW := 6
 RUST := rustc --edition 2021 -C opt-level=3 -C codegen-units=1 -L native=$(LIBDIR)
 
-.PHONY: run sample help test staticlib compare bench machine-code call originals
+.PHONY: run sample broodline help test staticlib compare bench machine-code call originals
 .NOTPARALLEL:
 
 help:
 	@echo 'make run                   broodline on a comb with two bees: a line a macroblock, in seconds'
 	@echo 'make test                  format check, then rt ci: the gate'
+	@echo 'make broodline             the program with an exit status, as target/broodline'
 	@echo 'make staticlib             the static library for C and Rust'
 	@echo 'make compare DOCS=FOLDER   the library and broodline against the original Rust, at random'
 	@echo 'make bench DOCS=FOLDER     the same two, timed side by side'
@@ -72,6 +73,11 @@ target/staticlib/libhencouch.a: $(SOURCES)
 
 $(BROODLINE): $(SOURCES)
 	rt check broodline
+
+# The same program with an exit status, behind a C main.
+broodline: $(SOURCES)
+	rt staticlib play
+	$(CC) -std=c99 -Wall -Wextra -O2 -o target/broodline oracle/broodline.c $(LIBDIR)/libplay.a
 
 # $(call cut,FILE,NAMES): the parts with these names, unchanged, each of which has to be there once.
 # A function, a struct and an impl block, whose name is impl:TYPE, end with their brace; a constant

@@ -1,5 +1,5 @@
-//! Compares the static library with the Rust that it was ported from, on random valid and damaged
-//! calls. The originals, as `half_sample` and `fdct`, are unchanged; they are laid beside this file
+//! Compares the static library and the program with the Rust that they were ported from, on random
+//! valid and damaged calls and inputs. The originals, as `half_sample` and `fdct`, are unchanged; they are laid beside this file
 //! before it is compiled.
 //!
 //! A function group is one module with `compare(&Options) -> Result<Summary, String>`; the error
@@ -7,6 +7,7 @@
 
 include!("modules.rs");
 
+mod clip;
 mod counted;
 mod damage;
 mod events;
@@ -38,6 +39,7 @@ fn main() {
         events::compare,
         search::compare,
         macroblock::compare,
+        clip::compare,
     ];
     for compare in all {
         match compare(&options) {

@@ -11,7 +11,11 @@ pub type Mark = (&'static str, String);
 
 pub struct Counted {
     name: &'static str,
+    /// What is said of the calls.
+    are: &'static str,
     calls: usize,
+    /// So many have to cover everything.
+    enough: usize,
     lines: BTreeMap<&'static str, BTreeMap<String, usize>>,
 }
 
@@ -22,7 +26,12 @@ impl Counted {
         for (title, names) in all {
             lines.insert(title, names.into_iter().map(|name| (name, 0)).collect());
         }
-        Counted { name, calls: 0, lines }
+        Counted { name, are: "valid calls equal", calls: 0, enough: ENOUGH, lines }
+    }
+
+    /// Other words for the calls, of which so many have to cover everything.
+    pub fn naming(self, are: &'static str, enough: usize) -> Self {
+        Counted { are, enough, ..self }
     }
 
     /// One call, with the names that it counts for.
@@ -45,7 +54,7 @@ impl Counted {
     /// Prints the counts; an error if a long run left something out. The count of calls.
     pub fn finish(self) -> Result<usize, String> {
         let name = self.name;
-        println!("{name}: {} valid calls equal", self.calls);
+        println!("{name}: {} {}", self.calls, self.are);
         let mut missing = Vec::new();
         for (title, line) in &self.lines {
             let words: Vec<String> = line.iter().map(|(n, count)| format!("{n} {count}")).collect();
@@ -53,7 +62,7 @@ impl Counted {
             let none = line.iter().filter(|(_, &count)| count == 0);
             missing.extend(none.map(|(n, _)| format!("{title}: {n}")));
         }
-        if self.calls >= ENOUGH && !missing.is_empty() {
+        if self.calls >= self.enough && !missing.is_empty() {
             return Err(format!("{name}: the valid calls left out {}", missing.join(", ")));
         }
         Ok(self.calls)

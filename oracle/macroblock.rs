@@ -8,7 +8,7 @@ mod lent;
 mod lists;
 mod pattern;
 mod planes;
-mod predicted;
+pub mod predicted;
 mod quantising;
 mod reader;
 mod residual;

@@ -18,7 +18,7 @@ use crate::search_bench::{pictures, Picture, COLUMNS, HEIGHT, MACROBLOCKS, WIDTH
 use crate::texture::AcEvent;
 use crate::timing::{measure_each, Times};
 use std::hint::black_box;
-use table::Row;
+pub use table::Row;
 
 /// Every macroblock of every row is timed in each of several passes over the table, so that a slow
 /// spell of the machine spoils no row.
@@ -54,13 +54,13 @@ pub fn bench() {
 }
 
 /// A picture's planes. Its chroma is its luma at every second place of every second row.
-struct Still {
-    source: [Vec<u8>; 2],
-    reference: [Vec<u8>; 2],
+pub struct Still {
+    pub source: [Vec<u8>; 2],
+    pub reference: [Vec<u8>; 2],
 }
 
 impl Still {
-    fn new(picture: Picture) -> Self {
+    pub fn new(picture: Picture) -> Self {
         let (source, reference) = pictures(picture);
         let half = |luma: &[u8]| -> Vec<u8> {
             let place = |k: usize| k / (WIDTH / 2) * 2 * WIDTH + k % (WIDTH / 2) * 2;
@@ -72,9 +72,9 @@ impl Still {
     }
 }
 
-struct Predicted {
-    y: [u8; 256],
-    chroma: [u8; 64],
+pub struct Predicted {
+    pub y: [u8; 256],
+    pub chroma: [u8; 64],
 }
 
 fn search<'a>(row: &Row, still: &'a Still, k: usize) -> Search<'a> {
@@ -90,7 +90,7 @@ fn search<'a>(row: &Row, still: &'a Still, k: usize) -> Search<'a> {
     }
 }
 
-fn predictions(row: &Row, still: &Still) -> Vec<Predicted> {
+pub fn predictions(row: &Row, still: &Still) -> Vec<Predicted> {
     let predict = |k: usize| {
         let place = Place::new(&search(row, still, k));
         let vector = place.one().0;
@@ -150,7 +150,7 @@ fn time(works: &[Work], best: &mut [Times]) {
 }
 
 /// What the library fills.
-struct Area {
+pub struct Area {
     lasts: [u8; 384],
     runs: [u8; 384],
     levels: [i32; 384],
@@ -163,7 +163,7 @@ struct Area {
 }
 
 impl Area {
-    fn new() -> Self {
+    pub fn new() -> Self {
         Area {
             lasts: [0; 384],
             runs: [0; 384],
@@ -177,7 +177,7 @@ impl Area {
         }
     }
 
-    fn code(&mut self, coding: &Coding) -> u8 {
+    pub fn code(&mut self, coding: &Coding) -> u8 {
         let Area { lasts, runs, levels, vector, sum, four_vectors, four_sums, patterns, counts } =
             self;
         let record = Record { vector, sum, four_vectors, four_sums, patterns, counts };

@@ -1,6 +1,8 @@
 // The modules that compare and bench share; each of the two includes this list. Either leaves some
 // functions unused.
 
+#[allow(dead_code, unused_imports)]
+mod broodline;
 mod bvop_prediction;
 #[macro_use]
 mod entry;

@@ -15,18 +15,25 @@ pub struct Tally {
     pairs: BTreeSet<(u8, u8)>,
     /// How many pairs there can be.
     every: usize,
+    /// So many calls have to cover everything.
+    enough: usize,
 }
 
 impl Tally {
     pub fn new(name: &'static str, numbers: &'static [u8]) -> Self {
         let (replies, alone, pairs) = Default::default();
         let every = numbers.len() * (numbers.len() - 1) / 2;
-        Tally { name, numbers, calls: 0, replies, alone, pairs, every }
+        Tally { name, numbers, calls: 0, replies, alone, pairs, every, enough: ENOUGH }
     }
 
     /// So many pairs that cannot be, as one reason rules the other out.
     pub fn without(self, pairs: usize) -> Self {
         Tally { every: self.every - pairs, ..self }
+    }
+
+    /// So many calls have to cover everything.
+    pub fn enough(self, enough: usize) -> Self {
+        Tally { enough, ..self }
     }
 
     /// All reasons of one call, in order.
@@ -52,7 +59,7 @@ impl Tally {
             self.pairs.len()
         );
         let covered = self.alone.len() == all && self.pairs.len() == every;
-        if self.calls >= ENOUGH && !covered {
+        if self.calls >= self.enough && !covered {
             return Err(format!("{}: the damaged calls left something uncovered", self.name));
         }
         Ok(self.calls)
