@@ -7,7 +7,7 @@ mod check;
 mod cut;
 mod damage;
 mod marks;
-mod moving;
+pub mod moving;
 
 use crate::broodline::{Header, Program, HEADER, NUMBERS};
 use crate::counted::Counted;

@@ -15,6 +15,7 @@ mod guard;
 mod levels;
 mod macroblock;
 mod options;
+mod run;
 mod sample;
 mod search;
 mod summary;
@@ -39,6 +40,7 @@ fn main() {
         events::compare,
         search::compare,
         macroblock::compare,
+        run::compare,
         clip::compare,
     ];
     for compare in all {

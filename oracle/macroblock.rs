@@ -12,7 +12,7 @@ pub mod predicted;
 mod quantising;
 mod reader;
 mod residual;
-mod whole;
+pub mod whole;
 
 use crate::options::Options;
 use crate::random::Random;

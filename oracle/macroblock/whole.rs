@@ -2,7 +2,7 @@
 //! of demand 3 and held to that demand's sentences.
 
 pub mod call;
-mod check;
+pub mod check;
 mod damage;
 mod forms;
 mod marks;

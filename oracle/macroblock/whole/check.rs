@@ -3,7 +3,7 @@
 
 use super::call::{Answer, Call};
 use crate::guard::{held, Lent};
-use crate::library::{self, Record};
+use crate::library::{self, Areas, Record};
 use crate::macroblock::lent::{named, EventsLent};
 use crate::random::Random;
 
@@ -51,10 +51,21 @@ impl RecordLent {
 /// Holds the library to `reply`: 0 with the originals' answer, which is handed back, or a refusal
 /// with nothing written.
 pub fn check(call: &Call, reply: u8, random: &mut Random) -> Result<Answer, String> {
+    let ask = |areas: Areas, record: Record| library::code_macroblock(&call.coding, areas, record);
+    check_by(ask, call, reply, random)
+}
+
+/// The same of any entry that is to answer as this one does.
+pub fn check_by(
+    ask: impl FnOnce(Areas, Record) -> u8,
+    call: &Call,
+    reply: u8,
+    random: &mut Random,
+) -> Result<Answer, String> {
     let mut record = RecordLent::new(random);
     let mut events = EventsLent::new(call.lens, 6, random);
     let (areas, counts) = events.areas();
-    let got = library::code_macroblock(&call.coding, areas, record.record(counts));
+    let got = ask(areas, record.record(counts));
     let wanted = if reply == 0 { call.ask_original() } else { Answer::default() };
     let found = record.held(got, reply, &wanted);
     let Err(found) = found.and_then(|()| events.held(got, reply, &wanted.events)) else {
