@@ -4,6 +4,10 @@
 DOCS ?=
 # Words for compare: --seed N --valid N --refused N.
 ARGS :=
+# The crate whose rows bench times, and no others; empty: all rows.
+ONLY :=
+# The figures that bench holds its rows to.
+WANTED := oracle/wanted.txt
 # The folder of the static library.
 LIBDIR := target/staticlib
 
@@ -21,11 +25,49 @@ CUT_pvop_encode := SEARCH_RANGE mv_range search_window_pels sad_full_pel units_p
 CUT_reconstruct := MACROBLOCK_LUMA_SIDE MACROBLOCK_CHROMA_SIDE InterPredictionMacroblock
 # The function that sums a block, and how often psadbw has to be in it: 2 a turn of 8 for 16 rows of
 # 16, and 4 for 8 rows of 8.
-SEARCH_CODE := search::sums::block
+SEARCH_CODE := full_search::sums::block
 PSADBW := 6
-RUST := rustc --edition 2021 -C opt-level=3 -C codegen-units=1 -L native=$(LIBDIR)
+COUNT_PSADBW = awk -v code='$(SEARCH_CODE)' -v least=$(PSADBW) -f oracle/psadbw.awk
+RUST := rustc --edition 2021 -C opt-level=3 -C codegen-units=1
 
-.PHONY: run sample broodline help test staticlib compare bench machine-code call originals
+# Sets of rows: the crates whose entries they call, and these entries.
+ROWS := half_sample quarter_sample fdct levels search coding macroblock broodline
+CRATES_half_sample := half_sample
+ENTRIES_half_sample := interpolate_block_into
+CRATES_quarter_sample := quarter_sample
+ENTRIES_quarter_sample := interpolate_block_qpel_into
+CRATES_fdct := fdct
+ENTRIES_fdct := forward_dct_8x8
+CRATES_levels := quantise scan
+ENTRIES_levels := quantise_block forward_scan levels_to_events
+CRATES_search := search
+ENTRIES_search := estimate_motion estimate_motion_4mv
+CRATES_coding := coding
+ENTRIES_coding := macroblock_residual quantise_inter_residual
+CRATES_macroblock := macroblock
+ENTRIES_macroblock := code_macroblock intra_activity
+CRATES_broodline := macroblock
+ENTRIES_broodline := code_macroblock
+# The set that watches a crate, where it has not the crate's name.
+ROWS_OF_quantise := levels
+ROWS_OF_scan := levels
+ROWS_OF_prediction := search
+ROWS_OF_full_search := search
+ROWS_OF_picture := broodline
+ROWS_OF_clip := broodline
+ROWS_OF_play := broodline
+
+ifeq ($(ONLY),)
+TIMED := $(ROWS) all
+BENCH_LIBDIR := $(LIBDIR)
+BENCH_NEEDS := machine-code $(LIBRARY) $(BROODLINE)
+else
+TIMED := $(or $(ROWS_OF_$(ONLY)),$(filter $(ONLY),$(ROWS)))
+BENCH_LIBDIR := target/only/$(TIMED)/target/staticlib
+BENCH_NEEDS := only $(if $(filter broodline,$(TIMED)),$(BROODLINE))
+endif
+
+.PHONY: run sample broodline help test staticlib compare bench only machine-code call originals
 .NOTPARALLEL:
 
 help:
@@ -34,7 +76,12 @@ help:
 	@echo 'make broodline             the program with an exit status, as target/broodline'
 	@echo 'make staticlib             the static library for C and Rust'
 	@echo 'make compare DOCS=FOLDER   the library and broodline against the original Rust, at random'
-	@echo 'make bench DOCS=FOLDER     the same two, timed side by side'
+	@echo 'make bench DOCS=FOLDER     the same two, timed side by side; fails where a row is below what'
+	@echo '                           oracle/wanted.txt wants of it'
+	@echo 'make bench DOCS=FOLDER ONLY=CRATE   the rows that watch one crate, in seconds: half_sample,'
+	@echo '                           quarter_sample, fdct, quantise, scan, prediction, full_search, search,'
+	@echo '                           coding, macroblock, picture, clip, play or broodline. It builds that'
+	@echo '                           crate, what it depends on and its entries, and proves what is unproved'
 	@echo 'make machine-code          whether the search sums by the instruction made for it'
 	@echo 'make sample                makes the clip of make run anew'
 	@echo 'make call                  a C program that calls the library three times'
@@ -107,17 +154,26 @@ originals:
 	$(foreach file,$(CUT_FILES),$(call cut,$(file),$(CUT_$(file))))
 
 compare: originals $(LIBRARY) $(BROODLINE)
-	$(RUST) -o target/oracle/compare target/oracle/compare.rs
+	$(RUST) -L native=$(LIBDIR) -o target/oracle/compare target/oracle/compare.rs
 	target/oracle/compare --broodline $(BROODLINE) $(ARGS)
 
-bench: machine-code originals $(LIBRARY) $(BROODLINE)
-	$(RUST) -o target/oracle/bench target/oracle/bench.rs
-	target/oracle/bench $(BROODLINE)
+# A row that is below its wanted figure is measured again, up to three times, before it fails.
+bench: $(BENCH_NEEDS) originals
+	$(RUST) -L native=$(BENCH_LIBDIR) --check-cfg 'cfg(timed, values(any()))' \
+	  $(foreach rows,$(TIMED),--cfg 'timed="$(rows)"') -o target/oracle/bench target/oracle/bench.rs
+	target/oracle/bench $(WANTED) $(BROODLINE)
+
+# A library of the entries that these rows call, in a repository of its own: see only.sh.
+only:
+	$(if $(TIMED),,$(error ONLY=$(ONLY) has no rows: one of $(ROWS) quantise scan prediction full_search picture clip play))
+	sh oracle/only/only.sh target/only/$(TIMED) '$(CRATES_$(TIMED))' '$(ENTRIES_$(TIMED))'
+	cd target/only/$(TIMED) && rt staticlib hencouch
+	$(if $(filter search macroblock broodline,$(TIMED)),@objdump -d $(BENCH_LIBDIR)/libhencouch.a | $(COUNT_PSADBW))
 
 # The sum of a block's differences is fast only while the compiler finds psadbw for it, which a
 # small change of the source can undo.
 machine-code: $(LIBRARY)
-	@objdump -d $(LIBRARY) | awk -v code='$(SEARCH_CODE)' -v least=$(PSADBW) -f oracle/psadbw.awk
+	@objdump -d $(LIBRARY) | $(COUNT_PSADBW)
 
 call: $(LIBRARY)
 	mkdir -p target/oracle

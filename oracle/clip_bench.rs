@@ -14,26 +14,29 @@
 //! little below 0, as the library's code is not laid out as the program's is. `at most` is the same
 //! share with `again` for `first`: it counts as reading and printing what only a new process pays.
 
-mod table;
+mod shares;
 
 use crate::broodline::{play, Clip, Header, Program, HEADER, PREDICTION};
 use crate::macroblock_bench::{predictions, Area, Predicted, Row, Still};
 use crate::search_bench::{Picture, HEIGHT, MACROBLOCKS, WIDTH};
+use crate::table::Table;
 use crate::timing::Times;
+use crate::wanted::Wanted;
+use shares::Line;
 use std::fs::{self, File};
 use std::hint::black_box;
 use std::process::{Command, Stdio};
 use std::time::Instant;
-use table::Line;
 
-/// Every row is timed in each of several passes over the table, so that a slow spell of the machine
-/// spoils no row.
 const PASSES: usize = 10;
 
 /// Runs of the program and of the library in a pass; there is one of the originals.
 const RUNS: usize = 12;
 
 const QUANTISER: u8 = 5;
+
+/// How often a share that missed is measured again before it has failed.
+const SHARES_AGAIN: usize = 3;
 
 /// Turns of the library in a process after the first.
 const AGAIN: usize = 3;
@@ -44,19 +47,24 @@ pub const CODING: &str = "--coding";
 /// Where the inputs are laid for the program.
 const FOLDER: &str = "target/oracle";
 
-pub fn bench(path: &str) {
+pub fn bench(path: &str, wanted: &mut Wanted) {
     let program = Program::at(path).unwrap_or_else(|text| panic!("{text}"));
     let still = Still::new(Picture::Textured);
-    let mut works: Vec<Work> = table::settings()
+    let mut works: Vec<Work> = shares::settings()
         .into_iter()
         .map(|(vectors, mode, fcode)| Work::new(vectors, mode, fcode, &still, &program))
         .collect();
-    for _ in 0..PASSES {
-        works.iter_mut().for_each(|work| work.time(&program));
+    let mut table = Table::new("broodline, a picture", ("us", 1e3));
+    works.iter().for_each(|work| table.row(format!("picture {}", work.line.setting()), &[]));
+    table.run(wanted, PASSES, |at, _| {
+        works[at].time(&program);
+        works[at].line.times
+    });
+    for _ in 0..SHARES_AGAIN {
+        let missed = shares::missed(works.iter().map(|work| &work.line), wanted);
+        (0..PASSES).for_each(|_| missed.iter().for_each(|&at| works[at].time(&program)));
     }
-    let mut lines: Vec<Line> = works.into_iter().map(|work| work.line).collect();
-    table::share_starts(&mut lines);
-    table::print(&lines);
+    shares::print(works.iter().map(|work| &work.line), wanted);
 }
 
 struct Work {
@@ -115,8 +123,8 @@ fn input(vectors: u32, mode: u32, fcode: u32, still: &Still) -> Vec<u8> {
     for plane in [&still.source[0], &still.source[1], &still.source[1], &still.reference[0]] {
         input.extend(plane);
     }
-    let (picture, first_method, times) = (Picture::Textured, false, Times::NONE);
-    let row = Row { vectors, mode, picture, fcode, first_method, times };
+    let (picture, first_method) = (Picture::Textured, false);
+    let row = Row { vectors, mode, picture, fcode, first_method };
     for Predicted { y, chroma } in predictions(&row, still) {
         input.extend(y);
         input.extend(chroma);

@@ -7,8 +7,10 @@ use crate::library;
 use crate::quantise::{quantise_method1_inter, quantise_method2_inter};
 use crate::random::Random;
 use crate::scan::ScanType;
+use crate::table::{Over, Table};
 use crate::texture::AcEvent;
 use crate::timing::{measure, Times, MIX};
+use crate::wanted::Wanted;
 use std::hint::black_box;
 use std::time::Duration;
 
@@ -22,33 +24,19 @@ struct Setting {
     quantiser: u32,
     /// The size of the first coefficient; the last one's is a sixty-fourth of it.
     size: i32,
-    times: Times,
 }
 
-pub fn bench() {
+pub fn bench(wanted: &mut Wanted) {
+    let mut table = Table::new("levels, scan and events, a block", ("ns", 1.0));
     let mut settings = Vec::new();
     for first_method in [false, true] {
+        let group = format!("levels {} method", if first_method { "first" } else { "second" });
         for (quantiser, size) in [(5, 60), (5, 600), (12, 600), (31, 2000)] {
-            settings.push(Setting { first_method, quantiser, size, times: Times::NONE });
+            table.row(format!("{group} q {quantiser} to {size}"), &[(&group, Over::Sums)]);
+            settings.push(Setting { first_method, quantiser, size });
         }
     }
-    for _ in 0..PASSES {
-        for setting in &mut settings {
-            setting.times = setting.times.best(time(setting));
-        }
-    }
-    println!("levels, scan and events of a block");
-    println!("method  quantiser  size    Rust ns  Rattle ns   ratio");
-    for s in &settings {
-        let method = if s.first_method { "first" } else { "second" };
-        let Times { rust, rattle } = s.times;
-        println!(
-            "{method:<6}  {:>9}  {:>4}  {rust:>9.1}  {rattle:>9.1}  {:>6.2}",
-            s.quantiser,
-            s.size,
-            s.times.ratio()
-        );
-    }
+    table.run(wanted, PASSES, |at, best| best.best(time(&settings[at])));
 }
 
 /// Holds both sides to the same events, then times them.

@@ -7,50 +7,106 @@
 //! The library judges its arguments in every call; the original's reference is judged, and its
 //! source block for the search and its prediction are laid out, once, before the timing.
 
-mod parts;
-mod table;
+pub mod parts;
 
 use crate::library::{self, Areas, Coding, Prediction, Quantising, Record};
 use crate::library::{Reference, Search, Source};
 use crate::pvop_encode::{Coded, Coder, Place};
 use crate::pvop_mv::{predict_luma_macroblock, PvopMbMotion};
-use crate::search_bench::{pictures, Picture, COLUMNS, HEIGHT, MACROBLOCKS, WIDTH};
+use crate::search_bench::{
+    pictures, Picture, COLUMNS, HEIGHT, MACROBLOCKS, MODES, PICTURES, WIDTH,
+};
+use crate::table::{Over, Table};
 use crate::texture::AcEvent;
 use crate::timing::{measure_each, Times};
+use crate::wanted::Wanted;
 use std::hint::black_box;
-pub use table::Row;
 
-/// Every macroblock of every row is timed in each of several passes over the table, so that a slow
-/// spell of the machine spoils no row.
 const PASSES: usize = 12;
 
 const QUANTISER: u32 = 5;
 const ZIGZAG: u32 = 2;
 
-pub fn bench() {
-    let stills = [Picture::Textured, Picture::Bees].map(Still::new);
-    let weights: [u8; 64] = std::array::from_fn(|i| 16 + i as u8 / 4);
-    let mut rows = table::all_rows();
+pub struct Row {
+    /// 1 or 4.
+    pub vectors: u32,
+    /// 0 half, 1 quarter.
+    pub mode: u32,
+    pub picture: Picture,
+    pub fcode: u32,
+    pub first_method: bool,
+}
+
+pub fn bench(wanted: &mut Wanted) {
+    let stills = PICTURES.map(Still::new);
+    let weights = weights();
+    let mut table = Table::new("search and coding, a macroblock", ("ns", 1.0));
+    let rows = rows();
     let predictions: Vec<Vec<Predicted>> =
         rows.iter().map(|row| predictions(row, &stills[row.picture as usize])).collect();
     let mut timed: Vec<(Vec<Work>, Vec<Times>)> = Vec::new();
     for (row, predictions) in rows.iter().zip(&predictions) {
+        let (name, group) = row.names();
+        table.row(name, &[(&group, Over::Sums)]);
         let works = works(row, &stills[row.picture as usize], predictions, &weights);
         works.iter().for_each(assert_same);
         timed.push((works, vec![Times::NONE; MACROBLOCKS]));
     }
-    for _ in 0..PASSES {
-        for (works, best) in &mut timed {
-            time(works, best);
+    table.run(wanted, PASSES, |at, _| {
+        let (works, best) = &mut timed[at];
+        time(works, best);
+        Times::mean(best)
+    });
+}
+
+fn weights() -> [u8; 64] {
+    std::array::from_fn(|i| 16 + i as u8 / 4)
+}
+
+/// A row for each setting: the second method, and two rows of the first.
+fn rows() -> Vec<Row> {
+    let first_method = false;
+    let mut rows = Vec::new();
+    for vectors in [1, 4] {
+        for mode in [0, 1] {
+            for picture in PICTURES {
+                rows.extend([1, 4].map(|fcode| Row {
+                    vectors,
+                    mode,
+                    picture,
+                    fcode,
+                    first_method,
+                }));
+            }
         }
     }
-    for (row, (_, best)) in rows.iter_mut().zip(&timed) {
-        row.times = Times::mean(best);
+    let (picture, fcode, first_method) = (Picture::Bees, 1, true);
+    rows.extend([(1, 0), (4, 1)].map(|(vectors, mode)| Row {
+        vectors,
+        mode,
+        picture,
+        fcode,
+        first_method,
+    }));
+    rows
+}
+
+impl Row {
+    /// The row's and its group's.
+    fn names(&self) -> (String, String) {
+        let vectors = if self.vectors == 4 { "four vectors" } else { "one vector" };
+        let group = format!("macroblock {vectors} {}", MODES[self.mode as usize]);
+        let (picture, method) = (self.picture.name(), self.method());
+        (format!("{group} {picture} fcode {} {method} method", self.fcode), group)
     }
-    table::print(&rows);
-    let works: Vec<(&Row, &[Work])> =
-        rows.iter().zip(&timed).map(|(row, (works, _))| (row, &works[..])).collect();
-    parts::bench(&works);
+
+    fn method(&self) -> &'static str {
+        if self.first_method {
+            "first"
+        } else {
+            "second"
+        }
+    }
 }
 
 /// A picture's planes. Its chroma is its luma at every second place of every second row.

@@ -6,44 +6,95 @@
 //! The library judges its arguments and reads the source in every call; the original's reference is
 //! judged and its source blocks are laid out once, before the timing.
 
-mod table;
-
 use crate::library::{self, Reference, Search, Source};
 use crate::motion::MotionVector;
 use crate::pictures::{bees, noise, textured};
 use crate::pvop_encode::Place;
+use crate::table::{Over, Table};
 use crate::timing::{measure_each, Times};
+use crate::wanted::Wanted;
 use std::hint::black_box;
-pub use table::Picture;
-use table::{Function, Row};
 
 pub const WIDTH: usize = 176;
 pub const HEIGHT: usize = 144;
 pub const COLUMNS: usize = WIDTH / 16;
 pub const MACROBLOCKS: usize = COLUMNS * HEIGHT / 16;
 
-/// Every macroblock of every row is timed in each of several passes over the table, so that a slow
-/// spell of the machine spoils no row.
 const PASSES: usize = 12;
 
-pub fn bench() {
-    let pictures = [Picture::Textured, Picture::Bees].map(pictures);
-    let mut rows = table::all_rows();
-    let mut timed: Vec<(Vec<Work>, Vec<Times>)> = Vec::new();
-    for row in &rows {
-        let works = works(row, &pictures[row.picture as usize]);
-        works.iter().for_each(|work| assert_same(row.function, work));
-        timed.push((works, vec![Times::NONE; MACROBLOCKS]));
-    }
-    for _ in 0..PASSES {
-        for (row, (works, best)) in rows.iter().zip(&mut timed) {
-            time(row.function, works, best);
+pub const MODES: [&str; 2] = ["half", "quarter"];
+
+#[derive(Clone, Copy)]
+enum Function {
+    One,
+    Four,
+}
+
+#[derive(Clone, Copy, PartialEq)]
+pub enum Picture {
+    Textured,
+    Bees,
+}
+
+pub const PICTURES: [Picture; 2] = [Picture::Textured, Picture::Bees];
+
+impl Picture {
+    pub fn name(self) -> &'static str {
+        match self {
+            Picture::Textured => "textured",
+            Picture::Bees => "bees",
         }
     }
-    for (row, (_, best)) in rows.iter_mut().zip(&timed) {
-        row.times = Times::mean(best);
+}
+
+struct Row {
+    function: Function,
+    /// 0 half, 1 quarter.
+    mode: u32,
+    picture: Picture,
+    fcode: u32,
+}
+
+pub fn bench(wanted: &mut Wanted) {
+    let pictures = PICTURES.map(pictures);
+    let mut table = Table::new("search, a macroblock", ("ns", 1.0));
+    let mut timed: Vec<(Function, Vec<Work>, Vec<Times>)> = Vec::new();
+    for row in &mut rows() {
+        let (name, group) = row.names();
+        table.row(name, &[(&group, Over::Sums)]);
+        let works = works(row, &pictures[row.picture as usize]);
+        works.iter().for_each(|work| assert_same(row.function, work));
+        timed.push((row.function, works, vec![Times::NONE; MACROBLOCKS]));
     }
-    table::print(&rows);
+    table.run(wanted, PASSES, |at, _| {
+        let (function, works, best) = &mut timed[at];
+        time(*function, works, best);
+        Times::mean(best)
+    });
+}
+
+fn rows() -> Vec<Row> {
+    let mut rows = Vec::new();
+    for function in [Function::One, Function::Four] {
+        for mode in [0, 1] {
+            for picture in PICTURES {
+                rows.extend([1, 4].map(|fcode| Row { function, mode, picture, fcode }));
+            }
+        }
+    }
+    rows
+}
+
+impl Row {
+    /// The row's and its group's.
+    fn names(&self) -> (String, String) {
+        let vectors = match self.function {
+            Function::One => "one vector",
+            Function::Four => "four vectors",
+        };
+        let group = format!("search {vectors} {}", MODES[self.mode as usize]);
+        (format!("{group} {} fcode {}", self.picture.name(), self.fcode), group)
+    }
 }
 
 fn draw(sample: impl Fn(i32, i32) -> u8) -> Vec<u8> {

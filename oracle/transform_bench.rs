@@ -4,34 +4,27 @@
 use crate::fdct;
 use crate::library;
 use crate::random::Random;
+use crate::table::{Over, Table};
 use crate::timing::{measure, Times, MIX};
+use crate::wanted::Wanted;
 use std::hint::black_box;
 use std::time::Duration;
 
-/// Every row is timed in each of several passes, so that a slow spell of the machine spoils no row.
 const PASSES: usize = 6;
 const BUDGET: Duration = Duration::from_millis(50);
 
 /// A name, the greatest number, and how many of a hundred numbers are not 0.
 const SORTS: [(&str, i32, u64); 3] = [("noise", 255, 100), ("small", 12, 100), ("sparse", 60, 10)];
 
-pub fn bench() {
+pub fn bench(wanted: &mut Wanted) {
     let mut random = Random::new(1);
-    let mut rows = SORTS.map(|(name, most, share)| {
+    let mut table = Table::new("transform, a block", ("ns", 1.0));
+    let sorts = SORTS.map(|(name, most, share)| {
+        table.row(format!("transform {name}"), &[("transform", Over::Sums)]);
         let blocks: [[[i32; 8]; 8]; MIX] = std::array::from_fn(|_| block(most, share, &mut random));
-        (name, blocks, Times::NONE)
+        blocks
     });
-    for _ in 0..PASSES {
-        for (_, blocks, times) in &mut rows {
-            *times = times.best(time(blocks));
-        }
-    }
-    println!("transform    Rust ns  Rattle ns   ratio");
-    for (name, _, times) in &rows {
-        let Times { rust, rattle } = *times;
-        println!("{name:<9}  {rust:>9.1}  {rattle:>9.1}  {:>6.2}", times.ratio());
-    }
-    println!("ratio: how many times as fast as the Rust");
+    table.run(wanted, PASSES, |at, best| best.best(time(&sorts[at])));
 }
 
 fn block(most: i32, share: u64, random: &mut Random) -> [[i32; 8]; 8] {

@@ -1,67 +1,61 @@
 //! Parts of the coding, timed by themselves: activity, residual and the events of a residual. What
 //! is timed at a time are all macroblocks of a picture in turn, so that none is met twice in a row.
 
-use super::table::Row;
-use super::{Area, Work, MACROBLOCKS};
+use super::{predictions, weights, works, Area, Predicted, Row, Still, Work, MACROBLOCKS};
 use crate::library::{self, Areas};
 use crate::pvop_encode::{intra_activity, source_luma_mb, view_of};
+use crate::search_bench::{Picture, PICTURES};
+use crate::table::{Over, Table};
 use crate::timing::{measure, Times};
+use crate::wanted::Wanted;
 use std::hint::black_box;
 use std::time::Duration;
 
 const PASSES: usize = 6;
 const BUDGET: Duration = Duration::from_millis(60);
 
-#[derive(Clone, Copy, PartialEq)]
-enum Part {
-    Activity,
-    Residual,
-    Events,
+pub struct Part {
+    name: &'static str,
+    /// Whether the method counts.
+    by_method: bool,
+    /// Holds both sides to the same answers, then times them.
+    time: fn(&[Work]) -> Times,
 }
 
-const PARTS: [(Part, &str); 3] = [
-    (Part::Activity, "intra_activity"),
-    (Part::Residual, "macroblock_residual"),
-    (Part::Events, "quantise_inter_residual"),
+/// Lists, so that a program that times one names no entry of the other.
+pub const MACROBLOCK: &[Part] =
+    &[Part { name: "intra_activity", by_method: false, time: activity }];
+pub const CODING: &[Part] = &[
+    Part { name: "macroblock_residual", by_method: false, time: residual },
+    Part { name: "quantise_inter_residual", by_method: true, time: events },
 ];
 
-/// Of one row for each picture and method; the method counts for events only.
-pub fn bench(works: &[(&Row, &[Work])]) {
-    let mut rows: Vec<(&Row, &[Work])> = Vec::new();
-    for &(row, works) in works {
-        let same = |other: &Row| other.picture == row.picture && other.method() == row.method();
-        if !rows.iter().any(|(other, _)| same(other)) {
-            rows.push((row, works));
+/// Of each picture by the second method, and where the method counts one by the first.
+pub fn bench(parts: &[Part], wanted: &mut Wanted) {
+    let stills = PICTURES.map(Still::new);
+    let weights = weights();
+    let rows = [(Picture::Textured, false), (Picture::Bees, false), (Picture::Bees, true)];
+    let rows = rows.map(|(picture, first_method)| {
+        let (vectors, mode, fcode) = (1, 0, 1);
+        Row { vectors, mode, picture, fcode, first_method }
+    });
+    let lent: [Vec<Predicted>; 3] =
+        std::array::from_fn(|k| predictions(&rows[k], &stills[rows[k].picture as usize]));
+    let works: [Vec<Work>; 3] = std::array::from_fn(|k| {
+        works(&rows[k], &stills[rows[k].picture as usize], &lent[k], &weights)
+    });
+    let mut table = Table::new("parts of the coding, a macroblock", ("ns", 1.0));
+    let mut timed = Vec::new();
+    for part in parts {
+        let group = format!("part {}", part.name);
+        for (k, row) in rows.iter().enumerate().filter(|(_, r)| part.by_method || !r.first_method) {
+            let method =
+                if part.by_method { format!(" {} method", row.method()) } else { "".into() };
+            table.row(format!("{group} {}{method}", row.picture.name()), &[(&group, Over::Sums)]);
+            timed.push((part, &works[k]));
         }
     }
-    println!("parts of the coding, a macroblock");
-    println!("part                     picture   method    Rust ns  Rattle ns   ratio");
-    for (part, name) in PARTS {
-        let events = part == Part::Events;
-        for (row, works) in rows.iter().filter(|(row, _)| events || !row.first_method) {
-            let mut best = Times::NONE;
-            for _ in 0..PASSES {
-                best = best.best(time(part, works));
-            }
-            let Times { rust, rattle } = best;
-            let method = if events { row.method() } else { "either" };
-            println!(
-                "{name:<23}  {:<8}  {method:<6}  {rust:>9.1}  {rattle:>9.1}  {:>6.2}",
-                row.picture.name(),
-                best.ratio()
-            );
-        }
-    }
-    println!("ratio: how many times as fast as the Rust");
-}
-
-/// Holds both sides to the same answers, then times them.
-fn time(part: Part, works: &[Work]) -> Times {
-    match part {
-        Part::Activity => activity(works),
-        Part::Residual => residual(works),
-        Part::Events => events(works),
-    }
+    table.run(wanted, PASSES, |at, best| best.best((timed[at].0.time)(timed[at].1)));
 }
 
 /// Times two sides that are handed the number of a macroblock; nanoseconds are for one.
