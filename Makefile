@@ -67,7 +67,7 @@ BENCH_LIBDIR := target/only/$(TIMED)/target/staticlib
 BENCH_NEEDS := only $(if $(filter broodline,$(TIMED)),$(BROODLINE))
 endif
 
-.PHONY: run sample broodline help test staticlib compare bench only machine-code call originals
+.PHONY: run sample broodline help test staticlib compare bench only machine-code call readme-lines originals
 .NOTPARALLEL:
 
 help:
@@ -84,7 +84,8 @@ help:
 	@echo '                           crate, what it depends on and its entries, and proves what is unproved'
 	@echo 'make machine-code          whether the search sums by the instruction made for it'
 	@echo 'make sample                makes the clip of make run anew'
-	@echo 'make call                  a C program that calls the library three times'
+	@echo 'make call                  a C program and a Rust one that call the library and hold it to answers'
+	@echo '                           they name; README.md shows their lines, and is held to them'
 	@echo 'FOLDER has the originals as src/src/half_sample.rs and so on. ARGS="--seed N --valid N'
 	@echo '--refused N" gives compare another seed and other counts.'
 
@@ -175,7 +176,26 @@ only:
 machine-code: $(LIBRARY)
 	@objdump -d $(LIBRARY) | $(COUNT_PSADBW)
 
-call: $(LIBRARY)
-	mkdir -p target/oracle
-	$(CC) -std=c99 -Wall -Wextra -O2 -Iinclude -o target/oracle/call oracle/call.c $(LIBRARY)
-	target/oracle/call
+# A C program and a Rust one that call the library and fail where an answer is not the one they name.
+call: readme-lines $(LIBRARY)
+	mkdir -p target/call
+	$(CC) -std=c99 -Wall -Wextra -O2 -Iinclude -o target/call/from_c oracle/call.c $(LIBRARY)
+	target/call/from_c
+	$(RUST) -L native=$(LIBDIR) -o target/call/from_rust oracle/call.rs
+	target/call/from_rust
+
+# $(call shown,FILE): the lines of a program between `shown` and `so far`, as README.md has them.
+shown = sed -n -e '/^ *\(\/\*\|\/\/\) shown/,/^ *\(\/\*\|\/\/\) so far/{' -e '/^ *\(\/\*\|\/\/\) \(shown\|so far\)/d' -e '$(2)p' -e '}' $(1)
+# $(call in_readme,LANGUAGE): the blocks of a language in README.md.
+in_readme = sed -n -e '/^```$(1)$$/,/^```$$/{' -e '/^```/d' -e 'p' -e '}' README.md
+
+# README.md shows lines of programs that are compiled and run, and no others.
+readme-lines:
+	@mkdir -p target/call
+	@$(call shown,oracle/call.c,s/^    //;) > target/call/shown.c
+	@$(call shown,oracle/call.rs) > target/call/shown.rs
+	@$(call in_readme,c) > target/call/readme.c
+	@$(call in_readme,rust) > target/call/readme.rs
+	@diff target/call/shown.c target/call/readme.c || { echo 'README.md has other lines of C than oracle/call.c' >&2; exit 1; }
+	@diff target/call/shown.rs target/call/readme.rs || { echo 'README.md has other lines of Rust than oracle/call.rs' >&2; exit 1; }
+	@test -s target/call/readme.c -a -s target/call/readme.rs || { echo 'README.md shows no lines of C or Rust' >&2; exit 1; }

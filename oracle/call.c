@@ -1,27 +1,43 @@
-/* Calls the library three times. First a 16 x 16 block from a slope, half a sample to the right:
- * its first row, each number between two samples, which are 4 apart. Then the vector of a
- * macroblock whose picture is the reference moved by 3 samples and 1: 6 and 2 half samples, sum 0.
- * Last the same macroblock, searched for and coded: its chroma and the whole prediction are flat,
- * so each luma block has events and neither chroma block has any, patterns 15 and 0. */
+/* Calls the library three times, and fails where an answer is not the one named here. First a
+ * 16 x 16 block from a slope, half a sample to the right: each sample lies between two that are 4
+ * apart. Then the vector of a macroblock whose picture is the reference moved by 3 samples and 1: 6
+ * and 2 half samples, sum 0. Last the same macroblock, searched for with one vector and with four,
+ * and coded: its chroma and the whole prediction are flat, so each luma block has events and neither
+ * chroma block has any, patterns 15 and 0.
+ *
+ * README.md shows the lines between `shown` and `so far`; `make call` holds it to them. */
 #include <stdio.h>
 #include <string.h>
 
 #include "hencouch.h"
 
-enum { WIDTH = 48, HEIGHT = 32, SIDE = 16 };
+enum { WIDTH = 48, HEIGHT = 32 };
 
-static uint8_t predict(void) {
-    uint8_t samples[WIDTH * HEIGHT];
-    uint8_t out[SIDE * SIDE] = {0};
+static int wrong = 0;
+
+static void expect(const char *what, long got, long wanted) {
+    if (got == wanted)
+        return;
+    fprintf(stderr, "call: %s is %ld, not %ld\n", what, got, wanted);
+    wrong = 1;
+}
+
+static void predict(void) {
+    uint8_t plane[WIDTH * HEIGHT];
     for (int y = 0; y < HEIGHT; y++)
         for (int x = 0; x < WIDTH; x++)
-            samples[y * WIDTH + x] = (uint8_t)(4 * x + y);
-    uint8_t reply = hencouch_interpolate_block_into(
-        samples, sizeof samples, WIDTH, HEIGHT, WIDTH, 1, 0, 8, 8, SIDE, SIDE, 0, out, sizeof out);
-    printf("reply %d\n", reply);
-    for (int x = 0; x < SIDE; x++)
-        printf("%d%c", out[x], x + 1 < SIDE ? ' ' : '\n');
-    return reply;
+            plane[y * WIDTH + x] = (uint8_t)(4 * x + y);
+    /* shown */
+    /* The 16 x 16 block at 8, 8, half a sample to the right, rounding type 0. */
+    uint8_t out[256];
+    uint8_t reply = hencouch_interpolate_block_into(plane, sizeof plane, WIDTH, HEIGHT, WIDTH,
+                                                    1, 0, 8, 8, 16, 16, 0, out, sizeof out);
+    /* so far */
+    expect("the prediction's reply", reply, 0);
+    for (int y = 0; y < 16; y++)
+        for (int x = 0; x < 16; x++)
+            expect("a predicted sample", out[16 * y + x], 4 * (8 + x) + (8 + y) + 2);
+    printf("predicted %d %d %d ...\n", out[0], out[1], out[2]);
 }
 
 static uint8_t texture(int x, int y) { return (uint8_t)(x * x * 7 + y * y * 13 + x * y * 5); }
@@ -34,38 +50,73 @@ static void pictures(uint8_t *source, uint8_t *reference) {
         }
 }
 
-static uint8_t search(void) {
-    uint8_t source[WIDTH * HEIGHT];
-    uint8_t reference[WIDTH * HEIGHT];
-    int32_t vector[2] = {0};
-    uint32_t sum[1] = {0};
-    pictures(source, reference);
-    uint8_t reply = hencouch_estimate_motion(
-        source, sizeof source, WIDTH, HEIGHT, 1, 0, reference, sizeof reference, WIDTH, HEIGHT,
-        WIDTH, 0, 8, 1, vector, 2, sum, 1);
-    printf("reply %d\nvector %d %d, sum %u\n", reply, vector[0], vector[1], (unsigned)sum[0]);
-    return reply;
+static void search(void) {
+    uint8_t source[WIDTH * HEIGHT], plane[WIDTH * HEIGHT];
+    size_t column = 1, row = 0;
+    pictures(source, plane);
+    /* shown */
+    /* One vector for a macroblock: half samples, 8 bits per pixel, fcode 1. */
+    int32_t vector[2];
+    uint32_t sum[1];
+    uint8_t reply = hencouch_estimate_motion(source, sizeof source, WIDTH, HEIGHT, column, row,
+                                             plane, sizeof plane, WIDTH, HEIGHT, WIDTH,
+                                             0, 8, 1, vector, 2, sum, 1);
+    /* so far */
+    expect("the search's reply", reply, 0);
+    expect("the vector's horizontal part", vector[0], 6);
+    expect("the vector's vertical part", vector[1], 2);
+    expect("the vector's sum", sum[0], 0);
+    printf("vector %d %d, sum %u\n", (int)vector[0], (int)vector[1], (unsigned)sum[0]);
 }
 
-static uint8_t code(void) {
-    uint8_t y[WIDTH * HEIGHT], reference[WIDTH * HEIGHT], flat[WIDTH * HEIGHT / 4];
-    uint8_t lasts[384], runs[384], weights[64], patterns[2] = {0}, counts[6] = {0};
-    int32_t levels[384], vector[2] = {0}, four_vectors[8];
-    uint32_t sum = 0, four_sums[4];
-    pictures(y, reference);
-    memset(flat, 128, sizeof flat);
+static void code(void) {
+    static const int wanted_counts[6] = {58, 58, 57, 60, 0, 0};
+    uint8_t y[WIDTH * HEIGHT], plane[WIDTH * HEIGHT], cb[WIDTH * HEIGHT / 4], weights[64];
+    uint8_t pred_y[256], pred_cb[64], pred_cr[64];
+    uint8_t *cr = cb;
+    size_t column = 1, row = 0;
+    pictures(y, plane);
+    memset(cb, 128, sizeof cb);
+    memset(pred_y, 128, sizeof pred_y);
+    memset(pred_cb, 128, sizeof pred_cb);
+    memset(pred_cr, 128, sizeof pred_cr);
     memset(weights, 16, sizeof weights);
-    uint8_t reply = hencouch_code_macroblock(
-        1, 0, 8, 8, 0, 1, 2, reference, sizeof reference, WIDTH, HEIGHT, WIDTH,
-        y, sizeof y, flat, sizeof flat, flat, sizeof flat, WIDTH, HEIGHT, 1, 0, weights, 64,
-        flat, 256, flat, 64, flat, 64, lasts, 384, runs, 384, levels, 384,
-        vector, &sum, four_vectors, four_sums, patterns, counts);
-    printf("reply %d\nvector %d %d, sum %u\npatterns %d %d, counts", reply, vector[0], vector[1],
-           (unsigned)sum, patterns[0], patterns[1]);
-    for (int b = 0; b < 6; b++)
+    /* shown */
+    /* fcode 1, half samples, 8 bits per pixel, quantiser 5, second method, four vectors, zigzag. */
+    uint8_t lasts[384], runs[384], patterns[2], counts[6];
+    int32_t levels[384], vector[2], four_vectors[8];
+    uint32_t sum, four_sums[4];
+    uint8_t reply = hencouch_code_macroblock(1, 0, 8, 5, 0, 4, 2,
+                                             plane, sizeof plane, WIDTH, HEIGHT, WIDTH,
+                                             y, sizeof y, cb, sizeof cb, cr, sizeof cb,
+                                             WIDTH, HEIGHT, column, row, weights, 64,
+                                             pred_y, 256, pred_cb, 64, pred_cr, 64,
+                                             lasts, 384, runs, 384, levels, 384,
+                                             vector, &sum, four_vectors, four_sums,
+                                             patterns, counts);
+    /* so far */
+    expect("the coding's reply", reply, 0);
+    expect("the coded vector's horizontal part", vector[0], 6);
+    expect("the coded vector's vertical part", vector[1], 2);
+    expect("the coded vector's sum", sum, 0);
+    for (int b = 0; b < 4; b++) {
+        expect("a block's horizontal part", four_vectors[2 * b], 6);
+        expect("a block's vertical part", four_vectors[2 * b + 1], 2);
+        expect("a block's sum", four_sums[b], 0);
+    }
+    expect("the luma pattern", patterns[0], 15);
+    expect("the chroma pattern", patterns[1], 0);
+    printf("patterns %d %d, counts", patterns[0], patterns[1]);
+    for (int b = 0; b < 6; b++) {
+        expect("a block's count of events", counts[b], wanted_counts[b]);
         printf(" %d", counts[b]);
+    }
     printf("\n");
-    return reply;
 }
 
-int main(void) { return predict() != 0 || search() != 0 || code() != 0; }
+int main(void) {
+    predict();
+    search();
+    code();
+    return wrong;
+}
