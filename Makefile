@@ -67,7 +67,7 @@ BENCH_LIBDIR := target/only/$(TIMED)/target/staticlib
 BENCH_NEEDS := only $(if $(filter broodline,$(TIMED)),$(BROODLINE))
 endif
 
-.PHONY: run sample broodline help test staticlib compare bench only machine-code call readme-lines originals
+.PHONY: run sample broodline help test staticlib compare bench only machine-code call readme-lines named-files originals
 .NOTPARALLEL:
 
 help:
@@ -86,6 +86,7 @@ help:
 	@echo 'make sample                makes the clip of make run anew'
 	@echo 'make call                  a C program and a Rust one that call the library and hold it to answers'
 	@echo '                           they name; README.md shows their lines, and is held to them'
+	@echo 'make named-files           whether the files of crates that README.md and docs/ name are there'
 	@echo 'FOLDER has the originals as src/src/half_sample.rs and so on. ARGS="--seed N --valid N'
 	@echo '--refused N" gives compare another seed and other counts.'
 
@@ -199,3 +200,8 @@ readme-lines:
 	@diff target/call/shown.c target/call/readme.c || { echo 'README.md has other lines of C than oracle/call.c' >&2; exit 1; }
 	@diff target/call/shown.rs target/call/readme.rs || { echo 'README.md has other lines of Rust than oracle/call.rs' >&2; exit 1; }
 	@test -s target/call/readme.c -a -s target/call/readme.rs || { echo 'README.md shows no lines of C or Rust' >&2; exit 1; }
+
+# The files of crates that README.md and docs/ name by crate and folder have to be there.
+named-files:
+	@grep -oh '[a-z_]*/\(src\|specs\|proofs\)/[A-Za-z_/]*\.\(rt\|antt\)' README.md docs/*.md | sort -u | \
+	  { lost=0; while read -r name; do test -f "crates/$$name" || { echo "there is no crates/$$name" >&2; lost=1; }; done; exit $$lost; }
