@@ -190,7 +190,7 @@ shown = sed -n -e '/^ *\(\/\*\|\/\/\) shown/,/^ *\(\/\*\|\/\/\) so far/{' -e '/^
 # $(call in_readme,LANGUAGE): the blocks of a language in README.md.
 in_readme = sed -n -e '/^```$(1)$$/,/^```$$/{' -e '/^```/d' -e 'p' -e '}' README.md
 
-# README.md shows lines of programs that are compiled and run, and no others.
+# README.md shows lines of programs that are compiled and run, and no others, and what broodline prints.
 readme-lines:
 	@mkdir -p target/call
 	@$(call shown,oracle/call.c,s/^    //;) > target/call/shown.c
@@ -199,6 +199,7 @@ readme-lines:
 	@$(call in_readme,rust) > target/call/readme.rs
 	@diff target/call/shown.c target/call/readme.c || { echo 'README.md has other lines of C than oracle/call.c' >&2; exit 1; }
 	@diff target/call/shown.rs target/call/readme.rs || { echo 'README.md has other lines of Rust than oracle/call.rs' >&2; exit 1; }
+	@sed -n '/^    $$ make run$$/,/^$$/s/^    \([0-9]\)/\1/p' README.md | diff crates/broodline/stdout - || { echo 'README.md has other lines of broodline than crates/broodline/stdout' >&2; exit 1; }
 	@test -s target/call/readme.c -a -s target/call/readme.rs || { echo 'README.md shows no lines of C or Rust' >&2; exit 1; }
 
 # The files of crates that README.md and docs/ name by crate and folder have to be there.
