@@ -1,6 +1,6 @@
-# Prints one file of Rattle: the functions ENTRIES of the files read, each with the functions that it
-# names and without contracts, and what they use of CRATES. A function that stands in two files is
-# taken from the first.
+# Prints one file of Rattle: the functions ENTRIES of the files read, each with the functions and types
+# that it names and without contracts, and what they use of CRATES. What stands in two files is taken
+# from the first.
 
 FNR == 1 { name = "" }
 
@@ -12,10 +12,10 @@ FNR == 1 { name = "" }
 
 /^#\[/ { mark = $0; next }
 
-/^(pub )?(extern "C" )?fn / {
+/^(pub )?((extern "C" )?fn|const|struct|enum) / {
     name = $0
-    sub(/^.*fn /, "", name)
-    sub(/[(<].*/, "", name)
+    sub(/^.*(fn|const|struct|enum) /, "", name)
+    sub(/[^A-Za-z0-9_].*/, "", name)
     if (name in text) name = "/" FILENAME "/" name
     else names[++count] = name
     text[name] = mark == "" ? "" : mark "\n"
@@ -29,14 +29,14 @@ name != "" {
     line = $0
     gsub(/crate::([a-z_]+::)?/, "", line)
     if (!contract) text[name] = text[name] line "\n"
-    if ($0 ~ /^\}/) name = ""
+    if ($0 ~ /^\}/ || $0 ~ /^[^ ].*;$/) name = ""
 }
 
 function take(name, k, other) {
     if (taken[name]++) return
     for (k = 1; k <= count; k++) {
         other = names[k]
-        if (other != name && text[name] ~ "(^|[^a-z_:])" other "\\(") take(other)
+        if (other != name && text[name] ~ "(^|[^A-Za-z0-9_:])" other "([^A-Za-z0-9_:]|$)") take(other)
     }
 }
 
