@@ -71,12 +71,12 @@ static void search(void) {
 
 static void code(void) {
     static const int wanted_counts[6] = {58, 58, 57, 60, 0, 0};
-    uint8_t y[WIDTH * HEIGHT], plane[WIDTH * HEIGHT], cb[WIDTH * HEIGHT / 4], weights[64];
-    uint8_t pred_y[256], pred_cb[64], pred_cr[64];
-    uint8_t *cr = cb;
+    uint8_t y[WIDTH * HEIGHT], plane[WIDTH * HEIGHT], cb[WIDTH * HEIGHT / 4];
+    uint8_t cr[WIDTH * HEIGHT / 4], weights[64], pred_y[256], pred_cb[64], pred_cr[64];
     size_t column = 1, row = 0;
     pictures(y, plane);
     memset(cb, 128, sizeof cb);
+    memset(cr, 128, sizeof cr);
     memset(pred_y, 128, sizeof pred_y);
     memset(pred_cb, 128, sizeof pred_cb);
     memset(pred_cr, 128, sizeof pred_cr);
@@ -88,7 +88,7 @@ static void code(void) {
     uint32_t sum, four_sums[4];
     uint8_t reply = hencouch_code_macroblock(1, 0, 8, 5, 0, 4, 2,
                                              plane, sizeof plane, WIDTH, HEIGHT, WIDTH,
-                                             y, sizeof y, cb, sizeof cb, cr, sizeof cb,
+                                             y, sizeof y, cb, sizeof cb, cr, sizeof cr,
                                              WIDTH, HEIGHT, column, row, weights, 64,
                                              pred_y, 256, pred_cb, 64, pred_cr, 64,
                                              lasts, 384, runs, 384, levels, 384,

@@ -20,7 +20,8 @@ module _ {X : Type 0} where
       back = omega arith
 
   -- a store at the first place of the rest
-  pub pad-more : (n : ℕ) (d v : X) (xs : List X) → length xs < n → set (xs ++ replicate (n - length xs) d) (length xs) v ≡ (xs ++ (v ∷ [])) ++ replicate (n - length (xs ++ (v ∷ []))) d
+  pub pad-more : (n : ℕ) (d v : X) (xs : List X) → length xs < n
+      → set (xs ++ replicate (n - length xs) d) (length xs) v ≡ (xs ++ (v ∷ [])) ++ replicate (n - length (xs ++ (v ∷ []))) d
   pad-more n d v xs h =
       ap (λ (m : ℕ). set (xs ++ replicate m d) (length xs) v) one
       ∙ set-append-seam xs d (replicate (n - suc (length xs)) d) v

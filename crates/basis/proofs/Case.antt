@@ -26,9 +26,6 @@ and-false false = refl
 pub second-fails : (a : Bool) {b : Bool} → b ≡ false → (a && b) ≡ false
 second-fails a p = ap (λ (t : Bool). a && t) p ∙ and-false a
 
-pub both-false : {a b : Bool} → a ≡ true → b ≡ false → (a && b) ≡ false
-both-false {a} {b} p q = ap (λ (t : Bool). t && b) p ∙ q
-
 -- one of two holds, and it is not the first
 pub second-holds : (a b : Bool) → a ≡ false → (a || b) ≡ true → b ≡ true
 second-holds true b e h = absurd (let z : _≡_ {A = ℕ} 0 1 = cc in omega arith)

@@ -5,10 +5,11 @@ use mathlib.Core.Bool.{Bool, true, false, cond}
 use mathlib.Core.List.{List, [], _∷_, foldl}
 use Prim.Native.Nat.{ℕ, zero, suc, _≤_, _<_}
 use native.Mathlib.Omega.{arith}
-use borrow.Author.Tests.{ltb-true, ltb-false}
-use lib.Dec.{ltb}
+use borrow.Author.Tests.{ltb-true, ltb-false, le-leb, lt-leb}
+use lib.Dec.{leb, ltb}
 use lib.ListN.{length, getD}
-use Rattle.basis.specs.Least.{better, best, FirstLeast}
+use Rattle.basis.specs.Least.{better, best, firstAtMost, bestPlace, FirstLeast}
+use Rattle.basis.proofs.Case.{then, else}
 
 module _ {A : Type 0} (cost : A → ℕ) where
   -- a smaller entry x takes the place of a
@@ -53,7 +54,8 @@ module _ {A : Type 0} (cost : A → ℕ) where
           before (suc zero) p = omega (arith, first)
           before (suc (suc j)) p = b (suc j) (omega arith)
 
-  step : (a x : A) (l : List A) (t : Bool) → ltb (cost x) (cost a) ≡ t → FirstLeast cost (x ∷ l) (foldl (better cost) x l) → FirstLeast cost (a ∷ l) (foldl (better cost) a l)
+  step : (a x : A) (l : List A) (t : Bool) → ltb (cost x) (cost a) ≡ t
+      → FirstLeast cost (x ∷ l) (foldl (better cost) x l) → FirstLeast cost (a ∷ l) (foldl (better cost) a l)
       → FirstLeast cost (a ∷ x ∷ l) (foldl (better cost) (cond t x a) l)
   step a x l true e won lost = later a x l _ (ltb-true _ _ e) won
   step a x l false e won lost = passed a x l _ (ltb-false _ _ e) lost
@@ -105,6 +107,28 @@ module _ {A : Type 0} (cost : A → ℕ) (l : List A) where
       same false true d e = absurd (order s r g f (ltb-true _ _ e))
       same false false d e = omega (arith, ltb-false (f .place) (g .place) d, ltb-false (g .place) (f .place) e)
 
-  -- however often an entry is repeated, `place` is the first index that has it
+  -- For the reader: however often an entry is repeated, `place` is the first index that has it
   pub no-earlier : (r : A) (f : FirstLeast cost l r) (j : ℕ) → j < f .place → getD l j r ≡ r → ⊥
   no-earlier r f j h e = omega (arith, f .before j h, ap cost e)
+
+module _ {A : Type 0} (cost : A → ℕ) where
+  -- a place inside l that costs at most c, where each before it costs more, is the first of those
+  first-at : (c : ℕ) (l : List A) (k : ℕ) (d : A) → k < length l → cost (getD l k d) ≤ c
+      → ((j : ℕ) → j < k → c < cost (getD l j d)) → firstAtMost cost c l ≡ k
+  unfolding firstAtMost
+  first-at c [] k d h e b = absurd (none h)
+    where
+      none : k < 0 → ⊥
+      none p = omega arith
+  first-at c (a ∷ l) zero d h e b = then _ _ _ (le-leb (cost a) c e)
+  first-at c (a ∷ l) (suc k) d h e b =
+      else _ _ _ (lt-leb (cost a) c (b 0 (omega arith)))
+      ∙ ap suc (first-at c l k d (omega arith) e (λ j p. b (suc j) (omega arith)))
+
+  -- the first place of l that costs no more than its first of least is that entry's own
+  pub place-is : (l : List A) (r : A) (f : FirstLeast cost l r) → firstAtMost cost (cost r) l ≡ f .place
+  place-is l r f = first-at (cost r) l (f .place) r (f .inside) (omega (arith, ap cost (f .here))) (f .before)
+
+  -- For a caller that says where a winner came from: `bestPlace` is the place of the best that every search finds
+  pub best-place : (first : A) (l : List A) → bestPlace cost first l ≡ best-first cost first l .place
+  best-place first l = place-is (first ∷ l) (best cost first l) (best-first cost first l)

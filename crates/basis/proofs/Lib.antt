@@ -2,6 +2,7 @@ pub mod Areas
 pub mod Bits
 pub mod Bounds
 pub mod Case
+pub mod Cut
 pub mod Division
 pub mod Each
 pub mod Least

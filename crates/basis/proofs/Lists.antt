@@ -164,10 +164,12 @@ module _ {A : Type 0} where
         ap (λ (x : List A). rows m r ++ x) (drop-of-length-le l {i = m * n} (omega arith)) ∙ append-nil (rows m r)
 
     -- a turn that lends the part from j * n to j * n + n, which comes back as row j; and the loop's end
-    pub laid-put : (j : ℕ) (l out row : List A) → out ≡ laid n r j l → row ≡ r j → take (j * n) out ++ (row ++ drop (j * n + n - j * n) (drop (j * n) out)) ≡ laid n r (j + 1) l
+    pub laid-put : (j : ℕ) (l out row : List A) → out ≡ laid n r j l → row ≡ r j
+        → take (j * n) out ++ (row ++ drop (j * n + n - j * n) (drop (j * n) out)) ≡ laid n r (j + 1) l
     laid-put j l out row e er =
         ap₂ (λ (x y : List A). take (j * n) x ++ (y ++ drop (j * n + n - j * n) (drop (j * n) x))) e er
-        ∙ ap (λ (x : List A). take (j * n) (laid n r j l) ++ (r j ++ x)) (ap (λ (m : ℕ). drop m (drop (j * n) (laid n r j l))) count ∙ drop-drop n (j * n) (laid n r j l))
+        ∙ ap (λ (x : List A). take (j * n) (laid n r j l) ++ (r j ++ x))
+        (ap (λ (m : ℕ). drop m (drop (j * n) (laid n r j l))) count ∙ drop-drop n (j * n) (laid n r j l))
         ∙ laid-more j l
       where
         count : j * n + n - j * n ≡ n
@@ -189,6 +191,12 @@ module _ {A : Type 0} where
 
   -- ---- raster order
 
+  -- there is one list of no entries
+  pub empty-same : (l m : List A) → length l ≡ 0 → length m ≡ 0 → l ≡ m
+  empty-same [] [] e f = refl
+  empty-same [] (x ∷ m) e f = absurd (omega arith)
+  empty-same (x ∷ l) m e f = absurd (omega arith)
+
   pub raster-cong : (w h : ℕ) (f g : ℕ → ℕ → A) → ((i j : ℕ) → i < w → j < h → f i j ≡ g i j) → raster w h f ≡ raster w h g
   raster-cong w h f g e =
       rows-cong h (λ j. tabulate w (λ i. f i j)) (λ j. tabulate w (λ i. g i j)) (λ j q. tabulate-cong w (λ i. f i j) (λ i. g i j) (λ i p. e i j p q))
@@ -200,10 +208,7 @@ module _ {A : Type 0} where
     pub length-raster : length (raster w h f) ≡ h * w
     length-raster = length-rows w (λ j. tabulate w (λ i. f i j)) wide h
 
-    -- row j, and column i of it
-    pub raster-row : (j : ℕ) → j < h → take w (drop (j * w) (raster w h f)) ≡ tabulate w (λ i. f i j)
-    raster-row j p = row-of w (λ j. tabulate w (λ i. f i j)) wide h j p
-
+    -- column i of row j
     pub getD-raster : (i j : ℕ) (d : A) → i < w → j < h → getD (raster w h f) (j * w + i) d ≡ f i j
     getD-raster i j d p q =
         getD-rows w (λ j. tabulate w (λ i. f i j)) wide h i j d p q ∙ getD-tabulate w (λ i. f i j) i d p

@@ -160,9 +160,6 @@ size-parts (negsuc a) = omega arith
 pub record Diff (z : ℤ) (p n : ℕ) : Type 0 where
   pub same : above z + n ≡ p + below z
 
-pub diff-self : (z : ℤ) → Diff z (above z) (below z)
-diff-self z = record { same = refl }
-
 pub diff-pos : (k : ℕ) → Diff (pos k) k 0
 diff-pos k = record { same = omega arith }
 
@@ -175,9 +172,6 @@ diff-add {x} {y} d e =
 
 pub diff-above : {z : ℤ} {p n : ℕ} → Diff z p n → above z ≡ p - n
 diff-above {z} d = omega (arith, d .same, sides z)
-
-pub diff-below : {z : ℤ} {p n : ℕ} → Diff z p n → below z ≡ n - p
-diff-below {z} d = omega (arith, d .same, sides z)
 
 -- ---- differences of naturals, products in long sums, and the division toward zero
 

@@ -6,7 +6,7 @@ use native.Mathlib.Omega.{arith}
 use mathlib.Core.Bool.{Bool, true, false}
 use mathlib.Core.Path.{_≡_, refl, sym, ap, ap₂, _∙_, subst}
 use lib.Dec.{T, ltb}
-use lib.IntN.{ℤ, pos, negsuc, natAbs, negℤ, _+ℤ_, _-ℤ_, +ℤ-idl}
+use lib.IntN.{ℤ, pos, negsuc, natAbs, negℤ, _-ℤ_, +ℤ-idl}
 use lib.Signed.{ltZ, leZ, nonNeg, mag}
 use mir.Syntax.{Width, w32}
 use mir.Val.{SFits, Fits, toZ, ofZ, bits, hbits}
@@ -38,14 +38,8 @@ le-is x y h = holds (leZ x y) (parts-le x y h)
 not-lt : (a b : ℕ) → (a < b → ⊥) → b ≤ a
 not-lt a b h = omega (arith, h)
 
-not-le : (a b : ℕ) → (a ≤ b → ⊥) → b < a
-not-le a b h = omega (arith, h)
-
 pub lt-false : (x y : ℤ) → ltZ x y ≡ false → above y + below x ≤ above x + below y
 lt-false x y e = not-lt (above x + below y) (above y + below x) (λ h. true-false (ltZ x y) e (parts-lt x y h))
-
-pub le-false : (x y : ℤ) → leZ x y ≡ false → above y + below x < above x + below y
-le-false x y e = not-le (above x + below y) (above y + below x) (λ h. true-false (leZ x y) e (parts-le x y h))
 
 module _ (w : Width) (x y : ℤ) (fx : SFits w x) (fy : SFits w y) where
   -- the test  x < y  of two signed locals
@@ -54,9 +48,6 @@ module _ (w : Width) (x y : ℤ) (fx : SFits w x) (fy : SFits w y) where
 
   pub le-read : leZ (toZ w (ofZ w x)) (toZ w (ofZ w y)) ≡ leZ x y
   le-read = ap₂ leZ (toZ-ofZ w x fx) (toZ-ofZ w y fy)
-
-  pub add-read : SFits w (x +ℤ y) → SFits w (toZ w (ofZ w x) +ℤ toZ w (ofZ w y))
-  add-read f = subst (SFits w) (sym (ap₂ _+ℤ_ (toZ-ofZ w x fx) (toZ-ofZ w y fy))) f
 
 -- a cast of a signed local to an unsigned type of more bits than the number's own less one
 pub cast-read : (w w′ : Width) (z : ℤ) → T (ltb (hbits w) (bits w′)) → SFits w z → below z ≡ 0

@@ -42,7 +42,8 @@ module _ {A : Type 0} where
       ∙ ap (λ (q : List A). x ++ q) (append-nil z)
 
   -- a list lends its first part, which comes back as x, and then its rest, which comes back as a list of f
-  pub put-two : (l x y z : List A) (a : ℕ) (f : ℕ → A) → y ≡ x → length x ≡ a → z ≡ tabulate (length (take (length (y ++ drop a l) - a) (drop a (y ++ drop a l)))) f
+  pub put-two : (l x y z : List A) (a : ℕ) (f : ℕ → A) → y ≡ x → length x ≡ a
+      → z ≡ tabulate (length (take (length (y ++ drop a l) - a) (drop a (y ++ drop a l)))) f
       → take a (y ++ drop a l) ++ (z ++ drop (length (y ++ drop a l) - a) (drop a (y ++ drop a l))) ≡ x ++ tabulate (length l - a) f
   put-two l x y z a f ey h ez =
       put-rest (y ++ drop a l) y z a (take-at y (drop a l) a (ap length ey ∙ h))
@@ -58,4 +59,5 @@ module _ {A : Type 0} where
   put-length l y a e h k =
       let p : length (take a l) ≡ a = length-take-le a l (omega arith) in
       let q : length (drop (e - a) (drop a l)) ≡ length l - a - (e - a) = length-drop (e - a) (drop a l) ∙ ap (λ (n : ℕ). n - (e - a)) (length-drop a l) in
-      length-append (take a l) (y ++ drop (e - a) (drop a l)) ∙ ap₂ (λ (m n : ℕ). m + n) p (length-append y (drop (e - a) (drop a l)) ∙ ap (λ (n : ℕ). length y + n) q) ∙ omega arith
+      length-append (take a l) (y ++ drop (e - a) (drop a l))
+      ∙ ap₂ (λ (m n : ℕ). m + n) p (length-append y (drop (e - a) (drop a l)) ∙ ap (λ (n : ℕ). length y + n) q) ∙ omega arith

@@ -1,4 +1,5 @@
 pub mod Parts
+pub mod Cut
 pub mod Division
 pub mod Lists
 pub mod Least

@@ -11,7 +11,7 @@ use lib.ListN.{length, getD, length-append}
 use lib.Signed.{ltZ}
 use borrow.Author.Tests.{lt-ltb, le-ltb, ltb-true}
 use Rattle.basis.proofs.Case.{then, else, either}
-use Rattle.clip.specs.Decimal.{digits, decimal, decimalZ, valueOf, Written}
+use Rattle.clip.specs.Decimal.{digits, decimal, decimalZ, valueOf, Numeral}
 
 digits-one : (k n : ℕ) → n < 10 → digits (suc k) n ≡ (48 + n) ∷ []
 unfolding digits
@@ -124,9 +124,9 @@ decimal-length n =
         let t : suc k ≤ length l = f k (omega (arith, pow-suc 10 k)) in
         omega (arith, length-append l ((48 + m % 10) ∷ []))
 
--- the digits of a number write it
-pub written : (n : ℕ) → Written n
-written n = record { value = value n; digit = digit n; leading = leading n; enough = λ k. decimal-length n k; least = λ k. length-decimal n k }
+-- For the reader: the digits of a number write it
+pub numeral : (n : ℕ) → Numeral n
+numeral n = record { value = value n; digit = digit n; leading = leading n; enough = λ k. decimal-length n k; least = λ k. length-decimal n k }
 
 -- just so many
 pub exactly : (n k : ℕ) → 10 ^ k ≤ n → n < 10 ^ suc k → length (decimal n) ≡ suc k

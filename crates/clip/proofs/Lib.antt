@@ -2,6 +2,6 @@ pub mod Digits
 pub mod Lines
 pub mod Room
 pub mod Texts
-pub mod Typed
+pub mod TypedRecord
 pub mod Whole
 pub mod Worked

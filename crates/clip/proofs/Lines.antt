@@ -6,10 +6,10 @@ use lib.ListN.{length}
 use Rattle.record.specs.declared.Record.{Record}
 use Rattle.clip.specs.declared.Text.{Text}
 use Rattle.clip.specs.Decimal.{decimal}
-use Rattle.clip.specs.Line.{spaced, joined, lineOf, macroblockWords}
-use Rattle.clip.specs.Push.{noText, pushed, pushes}
+use Rattle.clip.specs.Line.{spaced, concatenated, lineOf, macroblockWords}
+use Rattle.clip.specs.ToldPush.{noText, pushed, pushes}
 use Rattle.clip.specs.Text.{textOf}
-use Rattle.clip.proofs.Texts.{pushes-append, held}
+use Rattle.clip.proofs.Texts.{pushes-append, pushes-text}
 
 spaced-append : (ws vs : List (List ℕ)) → spaced (ws ++ vs) ≡ spaced ws ++ spaced vs
 unfolding spaced
@@ -26,22 +26,22 @@ spaced-more {r} {u} t ws vs e f =
     ∙ sym (pushes-append t (spaced ws) (spaced vs))
     ∙ ap (pushes t) (sym (spaced-append ws vs))
 
-joined-append : (w : List ℕ) (ws vs : List (List ℕ)) → joined (w ∷ (ws ++ vs)) ≡ joined (w ∷ ws) ++ spaced vs
-unfolding joined
-joined-append w ws vs = ap (λ (l : List ℕ). w ++ l) (spaced-append ws vs) ∙ sym (append-assoc w (spaced ws) (spaced vs))
+concatenated-append : (w : List ℕ) (ws vs : List (List ℕ)) → concatenated (w ∷ (ws ++ vs)) ≡ concatenated (w ∷ ws) ++ spaced vs
+unfolding concatenated
+concatenated-append w ws vs = ap (λ (l : List ℕ). w ++ l) (spaced-append ws vs) ∙ sym (append-assoc w (spaced ws) (spaced vs))
 
 -- words after those of a line that was begun
-pub joined-more : {r u : Text} (t : Text) (w : List ℕ) (ws vs : List (List ℕ))
-    → r ≡ pushes u (spaced vs) → u ≡ pushes t (joined (w ∷ ws)) → r ≡ pushes t (joined (w ∷ (ws ++ vs)))
-joined-more {r} {u} t w ws vs e f =
+pub concatenated-more : {r u : Text} (t : Text) (w : List ℕ) (ws vs : List (List ℕ))
+    → r ≡ pushes u (spaced vs) → u ≡ pushes t (concatenated (w ∷ ws)) → r ≡ pushes t (concatenated (w ∷ (ws ++ vs)))
+concatenated-more {r} {u} t w ws vs e f =
     e
     ∙ ap (λ (x : Text). pushes x (spaced vs)) f
-    ∙ sym (pushes-append t (joined (w ∷ ws)) (spaced vs))
-    ∙ ap (pushes t) (sym (joined-append w ws vs))
+    ∙ sym (pushes-append t (concatenated (w ∷ ws)) (spaced vs))
+    ∙ ap (pushes t) (sym (concatenated-append w ws vs))
 
 -- a first word
-pub begun : {r : Text} (t : Text) (w : List ℕ) → r ≡ pushes t w → r ≡ pushes t (joined (w ∷ []))
-unfolding joined spaced
+pub begun : {r : Text} (t : Text) (w : List ℕ) → r ≡ pushes t w → r ≡ pushes t (concatenated (w ∷ []))
+unfolding concatenated spaced
 begun {r} t w e = e ∙ ap (pushes t) (sym (append-nil w))
 
 -- a word is pushed after its space
@@ -50,23 +50,23 @@ unfolding spaced pushes
 word-is t w = ap (pushes (pushed t 32)) (sym (append-nil w))
 
 -- the newline ends a line
-pub ended : {r u : Text} (t : Text) (ws : List (List ℕ)) → r ≡ pushed u 10 → u ≡ pushes t (joined ws) → r ≡ pushes t (lineOf ws)
+pub ended : {r u : Text} (t : Text) (ws : List (List ℕ)) → r ≡ pushed u 10 → u ≡ pushes t (concatenated ws) → r ≡ pushes t (lineOf ws)
 unfolding lineOf pushes
-ended {r} {u} t ws e f = e ∙ ap (λ (x : Text). pushed x 10) f ∙ sym (pushes-append t (joined ws) (10 ∷ []))
+ended {r} {u} t ws e f = e ∙ ap (λ (x : Text). pushed x 10) f ∙ sym (pushes-append t (concatenated ws) (10 ∷ []))
 
 -- a line with room is held whole
 pub held-whole : (r : Text) (l : List ℕ) → r ≡ pushes noText l → length l ≤ 198 → (r ≡ textOf l) × (r .len ≤ 198)
 unfolding textOf
-held-whole r l e h = (e ∙ held l h, subst (λ (t : Text). t .len ≤ 198) (sym (e ∙ held l h)) h)
+held-whole r l e h = (e ∙ pushes-text l h, subst (λ (t : Text). t .len ≤ 198) (sym (e ∙ pushes-text l h)) h)
 
 -- what follows a macroblock's own words
 pub further : (column row : ℕ) (m : Record) (vs : List (List ℕ))
-    → joined (macroblockWords column row m ++ vs) ≡ joined (macroblockWords column row m) ++ spaced vs
+    → concatenated (macroblockWords column row m ++ vs) ≡ concatenated (macroblockWords column row m) ++ spaced vs
 unfolding macroblockWords
-further column row m vs = joined-append (decimal column) _ vs
+further column row m vs = concatenated-append (decimal column) _ vs
 
 pub further-more : {r u : Text} (t : Text) (column row : ℕ) (m : Record) (vs : List (List ℕ))
-    → r ≡ pushes u (spaced vs) → u ≡ pushes t (joined (macroblockWords column row m))
-    → r ≡ pushes t (joined (macroblockWords column row m ++ vs))
+    → r ≡ pushes u (spaced vs) → u ≡ pushes t (concatenated (macroblockWords column row m))
+    → r ≡ pushes t (concatenated (macroblockWords column row m ++ vs))
 unfolding macroblockWords
-further-more t column row m vs e f = joined-more t (decimal column) _ vs e f
+further-more t column row m vs e f = concatenated-more t (decimal column) _ vs e f

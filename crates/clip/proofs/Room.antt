@@ -12,9 +12,9 @@ use Rattle.record.specs.declared.MotionVector.{MotionVector}
 use Rattle.record.specs.declared.Record.{Record}
 use Rattle.record.specs.Count.{eventsIn, fourTotal}
 use Rattle.clip.specs.Decimal.{decimalZ}
-use Rattle.clip.specs.Line.{spaced, joined, lineOf, refusalLine, macroblockWords, vectorAt, fourWords, macroblockLine}
+use Rattle.clip.specs.Line.{spaced, concatenated, lineOf, refusalLine, macroblockWords, vectorAt, fourWords, macroblockLine}
 use Rattle.clip.proofs.Digits.{length-decimal, twenty-are-enough}
-use Rattle.clip.proofs.Typed.{TypedVector, Typed}
+use Rattle.clip.proofs.TypedRecord.{TypedVector, TypedRecord}
 use Rattle.clip.proofs.Lines.{further}
 
 -- a signed number of 32 bits has at most ten digits and a sign
@@ -27,9 +27,9 @@ vector-short : (v : MotionVector) → TypedVector v → length (decimalZ (v .x))
 vector-short v t = omega (arith, length-decimalZ (v .x) (t .horizontal), length-decimalZ (v .y) (t .vertical))
 
 -- column and row 20 digits each, vector 22, sum 10, patterns 3 each, events 4, seven spaces
-macroblock-short : (column row : ℕ) (m : Record) → column < 2 ^ 64 → row < 2 ^ 64 → Typed m
-    → length (joined (macroblockWords column row m)) ≤ 89
-unfolding joined spaced macroblockWords
+macroblock-short : (column row : ℕ) (m : Record) → column < 2 ^ 64 → row < 2 ^ 64 → TypedRecord m
+    → length (concatenated (macroblockWords column row m)) ≤ 89
+unfolding concatenated spaced macroblockWords
 macroblock-short column row m h k t =
     simp length-append
     (omega (
@@ -44,7 +44,7 @@ macroblock-short column row m h k t =
     ))
 
 -- four vectors 24 each with their spaces, their total 11 digits and a space
-four-short : (m : Record) → Typed m → length (spaced (fourWords m)) ≤ 108
+four-short : (m : Record) → TypedRecord m → length (spaced (fourWords m)) ≤ 108
 unfolding fourWords spaced
 four-short m t =
     simp length-append
@@ -57,13 +57,13 @@ four-short m t =
       length-decimal (fourTotal (m .sums)) 10 (omega (arith, t .sums 0, t .sums 1, t .sums 2, t .sums 3)),
     ))
 
-further-short : (m : Record) (four : Bool) → Typed m → length (spaced (cond four (fourWords m) [])) ≤ 108
+further-short : (m : Record) (four : Bool) → TypedRecord m → length (spaced (cond four (fourWords m) [])) ≤ 108
 unfolding spaced
 further-short m true t = four-short m t
 further-short m false t = omega arith
 
 -- no line is ever cut: 198 bytes hold that of any record, wherever it stands
-pub line-short : (column row : ℕ) (m : Record) (four : Bool) → column < 2 ^ 64 → row < 2 ^ 64 → Typed m
+pub line-short : (column row : ℕ) (m : Record) (four : Bool) → column < 2 ^ 64 → row < 2 ^ 64 → TypedRecord m
     → length (macroblockLine column row m four) ≤ 198
 unfolding macroblockLine lineOf
 line-short column row m four h k t =
@@ -71,5 +71,5 @@ line-short column row m four h k t =
     (omega (arith, macroblock-short column row m h k t, further-short m four t))
 
 pub refusal-short : (why : Refusal) → numberOf why < 256 → length (refusalLine why) ≤ 198
-unfolding refusalLine lineOf joined spaced
+unfolding refusalLine lineOf concatenated spaced
 refusal-short why h = simp length-append (omega (arith, length-decimal (numberOf why) 2 (omega arith)))

@@ -12,7 +12,7 @@ use Rattle.basis.proofs.Areas.{pad-length, pad-more}
 use Rattle.basis.proofs.Case.{then}
 use Rattle.clip.specs.declared.Text.{Text}
 use Rattle.clip.specs.Text.{textOf, taken}
-use Rattle.clip.specs.Push.{noText, pushed, pushes}
+use Rattle.clip.specs.ToldPush.{noText, pushed, pushes}
 
 pub pushes-append : (t : Text) (a b : List ℕ) → pushes t (a ++ b) ≡ pushes (pushes t a) b
 unfolding pushes
@@ -42,11 +42,11 @@ all-more a (b ∷ l) h =
     ∙ ap textOf (append-assoc a (b ∷ []) l)
 
 -- bytes that have room are held, each and in order
-pub held : (l : List ℕ) → length l ≤ 198 → pushes noText l ≡ textOf l
+pub pushes-text : (l : List ℕ) → length l ≤ 198 → pushes noText l ≡ textOf l
 unfolding textOf
-held l h = all-more [] l (omega arith)
+pushes-text l h = all-more [] l (omega arith)
 
--- what is taken of a text is what it holds, and its places are 198
+-- For the reader: what is taken of a text is what it holds, and its places are 198
 pub taken-is : (l : List ℕ) → taken (textOf l) ≡ l
 unfolding textOf
 taken-is l = take-at l (replicate (198 - length l) 0) (length l) refl

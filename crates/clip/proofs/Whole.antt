@@ -13,11 +13,11 @@ use Rattle.refusal.specs.declared.Reply.{Reply}
 use Rattle.refusal.specs.declared.Reply.the-variants.{Done, Refused}
 use Rattle.refusal.specs.Reply.{unless, done}
 use Rattle.refusal.specs.Test.{between}
-use Rattle.refusal.proofs.Replies.{held, after}
+use Rattle.refusal.proofs.Replies.{unless-done, after}
 use Rattle.refusal.proofs.Tests.{and-left, and-right, between-high}
 use Rattle.clip.specs.declared.Head.{Head}
 use Rattle.clip.specs.Header.{headOf, noHead, headReply, headerReply, headerOf}
-use Rattle.clip.specs.Planes.{noLengths, planesOf, lengthsOf}
+use Rattle.clip.specs.Planes.{noLengths, planesOf, planeLengthsOf}
 
 -- the sides of a picture that is not refused
 pub record Small (h : Head) : Type 0 where
@@ -33,7 +33,7 @@ small h e =
     let high = between 1 144 (h .height) in
     let third = unless (wide && high) SourceSide fourth in
     let modes = eqb (h .mode) 0 || eqb (h .mode) 1 in
-    let sides = held (wide && high) SourceSide fourth (after modes Mode third (after (between 1 7 (h .fcode)) Fcode (unless modes Mode third) e)) in
+    let sides = unless-done (wide && high) SourceSide fourth (after modes Mode third (after (between 1 7 (h .fcode)) Fcode (unless modes Mode third) e)) in
     record { wide = between-high 1 176 (h .width) (and-left wide high sides); high = between-high 1 144 (h .height) (and-right wide high sides) }
 
 -- and its planes
@@ -44,8 +44,8 @@ pub chroma-small : (h : Head) → Small h → planesOf h .chroma ≤ 6336
 chroma-small h s = product-le {m = 88} {n = 72} (omega (arith, s .wide)) (omega (arith, s .high))
 
 -- the lengths that a reply leaves
-pub announced : (h : Head) (r : Reply) → headReply h ≡ r → lengthsOf h ≡ done r (planesOf h) noLengths
-unfolding lengthsOf
+pub announced : (h : Head) (r : Reply) → headReply h ≡ r → planeLengthsOf h ≡ done r (planesOf h) noLengths
+unfolding planeLengthsOf
 announced h r e = ap (λ (x : Reply). done x (planesOf h) noLengths) e
 
 -- a header's answer: a reply r that is known to be q, and the head that q leaves
@@ -56,7 +56,7 @@ answered s n r q h e p f =
     ap (λ (x : Head). record { reply = r; head = x }) (f ∙ ap (λ (x : Reply). done x (headOf s) noHead) (sym p))
     ∙ ap (λ (x : Reply). record { reply = x; head = done x (headOf s) noHead }) e
 
--- a header cut short is refused by 12, whatever stands in the bytes that were not read
+-- For the reader: a header cut short is refused by 12, whatever stands in the bytes that were not read
 pub cut-short : (s : List ℕ) (n : ℕ) → n < 8 → headerOf s n ≡ record { reply = Refused Length; head = noHead }
 unfolding headerOf
 cut-short s n h =

@@ -1,4 +1,4 @@
--- Lines worked out: the document's own, a refusal, and one that fills a text to its last place. Assumes nothing.
+-- For the reader: lines worked out, the document's own, a refusal, and one that fills a text to its last place. Assumes nothing.
 use Prim.Native.Nat.{ℕ}
 use native.Mathlib.Omega.{arith}
 use mathlib.Core.Bool.{true, false}
@@ -11,13 +11,13 @@ use Rattle.record.specs.declared.MotionVector.{MotionVector}
 use Rattle.record.specs.declared.Record.{Record}
 use Rattle.record.specs.Zero.{zeroVector, noRecord}
 use Rattle.clip.specs.Decimal.{digits, decimal, decimalZ}
-use Rattle.clip.specs.Line.{spaced, joined, lineOf, refusalLine, macroblockWords, fourWords, macroblockLine}
+use Rattle.clip.specs.Line.{spaced, concatenated, lineOf, refusalLine, macroblockWords, fourWords, macroblockLine}
 use Rattle.clip.proofs.Digits.{exactly}
 
 -- `0 0 0 0 0 0 0 0`
 pub document-line : macroblockLine 0 0 noRecord false
     ≡ 48 ∷ 32 ∷ 48 ∷ 32 ∷ 48 ∷ 32 ∷ 48 ∷ 32 ∷ 48 ∷ 32 ∷ 48 ∷ 32 ∷ 48 ∷ 32 ∷ 48 ∷ 10 ∷ []
-unfolding digits decimal decimalZ spaced joined lineOf macroblockWords macroblockLine
+unfolding digits decimal decimalZ spaced concatenated lineOf macroblockWords macroblockLine
 document-line = refl
 
 -- `1 0 0 0 4764 0 0 0 -3 0 0 0 0 0 0 0 4504`: a negative component, and the total of four sums
@@ -38,12 +38,12 @@ fourFound = record {
 pub four-line : macroblockLine 1 0 fourFound true
     ≡ 49 ∷ 32 ∷ 48 ∷ 32 ∷ 48 ∷ 32 ∷ 48 ∷ 32 ∷ 52 ∷ 55 ∷ 54 ∷ 52 ∷ 32 ∷ 48 ∷ 32 ∷ 48 ∷ 32 ∷ 48 ∷ 32 ∷ 45 ∷ 51 ∷ 32 ∷ 48 ∷
     32 ∷ 48 ∷ 32 ∷ 48 ∷ 32 ∷ 48 ∷ 32 ∷ 48 ∷ 32 ∷ 48 ∷ 32 ∷ 48 ∷ 32 ∷ 52 ∷ 53 ∷ 48 ∷ 52 ∷ 10 ∷ []
-unfolding digits decimal decimalZ spaced joined lineOf macroblockWords fourWords macroblockLine
+unfolding digits decimal decimalZ spaced concatenated lineOf macroblockWords fourWords macroblockLine
 four-line = refl
 
 -- `refused 12`
 pub refused-twelve : refusalLine Length ≡ 114 ∷ 101 ∷ 102 ∷ 117 ∷ 115 ∷ 101 ∷ 100 ∷ 32 ∷ 49 ∷ 50 ∷ 10 ∷ []
-unfolding digits decimal spaced joined lineOf refusalLine
+unfolding digits decimal spaced concatenated lineOf refusalLine
 refused-twelve = refl
 
 abbrev leastVector : MotionVector
@@ -67,7 +67,7 @@ last = 18446744073709551615
 
 -- a text of fewer places would cut a line
 pub least-room : length (macroblockLine last last longest true) ≡ 198
-unfolding decimalZ spaced joined lineOf macroblockWords fourWords macroblockLine
+unfolding decimalZ spaced concatenated lineOf macroblockWords fourWords macroblockLine
 least-room =
     simp length-append
     (omega (

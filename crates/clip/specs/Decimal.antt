@@ -26,7 +26,7 @@ unfoldable pub valueOf : List ℕ → ℕ
 valueOf ds = foldl (λ v d. v * 10 + (d - 48)) 0 ds
 
 -- what holds of the digits of n
-pub record Written (n : ℕ) : Type 0 where
+pub record Numeral (n : ℕ) : Type 0 where
   -- read back, they are n
   pub value : valueOf (decimal n) ≡ n
   -- each is one of `0` to `9`

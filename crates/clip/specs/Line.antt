@@ -17,12 +17,12 @@ spaced [] = []
 spaced (w ∷ ws) = 32 ∷ (w ++ spaced ws)
 
 -- words, a space between two of them
-unfoldable pub joined : List (List ℕ) → List ℕ
-joined [] = []
-joined (w ∷ ws) = w ++ spaced ws
+unfoldable pub concatenated : List (List ℕ) → List ℕ
+concatenated [] = []
+concatenated (w ∷ ws) = w ++ spaced ws
 
 unfoldable pub lineOf : List (List ℕ) → List ℕ
-lineOf ws = joined ws ++ (10 ∷ [])
+lineOf ws = concatenated ws ++ (10 ∷ [])
 
 -- `refused`
 abbrev pub refusedWord : List ℕ

@@ -6,10 +6,10 @@ ghost use mathlib.Core.List.{[]};
 ghost use Prim.Native.Nat.{_+_, _*_, _≤_};
 ghost use Rattle.record.specs.Count.{fourTotal};
 ghost use Rattle.clip.specs.Header.{headOf, noHead, headReply, headerOf};
-ghost use Rattle.clip.specs.Planes.{lengthsOf};
+ghost use Rattle.clip.specs.Planes.{planeLengthsOf};
 ghost use Rattle.clip.specs.Text.{textOf};
-ghost use Rattle.clip.specs.Push.{noText, pushes};
-ghost use Rattle.clip.specs.Line.{spaced, joined, refusalLine, macroblockWords, fourWords, macroblockLine};
+ghost use Rattle.clip.specs.ToldPush.{noText, pushes};
+ghost use Rattle.clip.specs.Line.{spaced, concatenated, refusalLine, macroblockWords, fourWords, macroblockLine};
 use record::Record;
 use refusal::Refusal;
 use refusal::Reply;
@@ -33,7 +33,7 @@ pub struct Header {
 }
 
 // How many bytes a plane has.
-pub struct Lengths {
+pub struct PlaneLengths {
     pub luma: usize,
     pub chroma: usize,
 }
@@ -116,17 +116,17 @@ pub fn read_header(bytes: &[u8; 8], n: usize) -> Header
 }
 
 // The planes that a header announces; 0 where it would be refused, whoever made it.
-pub fn plane_lengths(head: Head) -> Lengths
-    ensures { λ r. ⌜ (r ≡ lengthsOf head) × (r .luma ≤ 25344) × (r .chroma ≤ 6336) ⌝ }
+pub fn plane_lengths(head: Head) -> PlaneLengths
+    ensures { λ r. ⌜ (r ≡ planeLengthsOf head) × (r .luma ≤ 25344) × (r .chroma ≤ 6336) ⌝ }
 {
     let width = head.width;
     let height = head.height;
     match head_reply(head) {
-        Reply::Done => Lengths {
+        Reply::Done => PlaneLengths {
             luma: width * height,
             chroma: (width + 1) / 2 * ((height + 1) / 2),
         },
-        Reply::Refused(_) => Lengths { luma: 0, chroma: 0 },
+        Reply::Refused(_) => PlaneLengths { luma: 0, chroma: 0 },
     }
 }
 
@@ -141,7 +141,7 @@ pub fn refusal_line(why: Refusal) -> Text
 
 // Column, row, vector, sum, patterns, events.
 fn macroblock_words(column: usize, row: usize, given: Record) -> Text
-    ensures { λ r. ⌜ r ≡ pushes noText (joined (macroblockWords column row given)) ⌝ }
+    ensures { λ r. ⌜ r ≡ pushes noText (concatenated (macroblockWords column row given)) ⌝ }
 {
     let vector = given.vector;
     let counts = given.counts;

@@ -2,9 +2,8 @@
 ghost use mathlib.Core.Path.{_≡_};
 ghost use mathlib.Core.List.{[], _∷_};
 ghost use Prim.Native.Nat.{_+_, _<_};
-ghost use lib.IntN.{natAbs};
 ghost use Rattle.clip.specs.Decimal.{decimal, decimalZ};
-ghost use Rattle.clip.specs.Push.{noText, pushed, pushes};
+ghost use Rattle.clip.specs.ToldPush.{noText, pushed, pushes};
 ghost use Rattle.clip.specs.Line.{spaced, vectorWords};
 use crate::Text;
 use record::MotionVector;
@@ -79,21 +78,10 @@ pub fn number(start: Text, n: u64) -> Text
     push(front, digit(n % 10))
 }
 
-// How far x is from 0: at 32 bits the least number has no opposite.
-fn size(x: i32) -> u64
-    ensures { λ r. ⌜ r ≡ natAbs x ⌝ }
-{
-    if x < 0 {
-        let less = (-1 - x) as u64;
-        return less + 1;
-    }
-    x as u64
-}
-
 fn signed(start: Text, x: i32) -> Text
     ensures { λ r. ⌜ r ≡ pushes start (decimalZ x) ⌝ }
 {
-    let n = size(x);
+    let n = wide32(basis::magnitude(x));
     if x < 0 {
         return number(push(start, b'-'), n);
     }

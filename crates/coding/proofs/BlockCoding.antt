@@ -22,7 +22,8 @@ use Rattle.scan.specs.Reply.{scanReply, eventsReply, eventsAnswer}
 use Rattle.scan.proofs.Accepted.{scan-ready, events-ready}
 use Rattle.scan.proofs.Grids.{scanned-each}
 use Rattle.coding.specs.Coding.{Quantising, quantised, inScan}
-use Rattle.coding.specs.Told.{ResidualRange, Quantisable}
+use Rattle.coding.specs.Residual.{ResidualRange}
+use Rattle.coding.specs.Told.{Quantisable}
 use Rattle.coding.proofs.Levels.{quantised-length, scan-length}
 
 pub transform-done : (block : List ℤ) → length block ≡ 64 → ResidualRange 64 block → dctReply block 64 ≡ Done
@@ -31,7 +32,8 @@ transform-done block full small = dct-ready block full (small .at)
 module _ (by : Quantising) (set : Quantisable by) (block : List ℤ) where
   pub quantise-done : quantiseReply (coefficients block) (by .quantiser) (by .first) (by .weights) 64 ≡ Done
   quantise-done =
-      quantise-ready (coefficients block) (by .quantiser) (by .first) (by .weights) (set .weighed) (coefficients-length block) (set .long) (coefficients-in block)
+      quantise-ready (coefficients block) (by .quantiser) (by .first) (by .weights) (set .weighed)
+      (coefficients-length block) (set .long) (coefficients-in block)
 
   -- levels by rows, and in scan order, are in range
   rows-in : (i : ℕ) → i < 64 → inRange (negsuc 2046) (pos 2047) (getD (quantised by block) i (pos 0)) ≡ true

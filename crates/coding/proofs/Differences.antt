@@ -3,7 +3,7 @@ use Prim.Native.Nat.{ℕ, _+_, _*_, _/_, _%_, _≤_, _<_, _^_}
 use native.Mathlib.Omega.{arith}
 use mathlib.Core.Bool.{Bool, true, false}
 use mathlib.Core.List.{List}
-use mathlib.Core.Path.{_≡_, refl, sym, ap, ap₂, subst, _∙_}
+use mathlib.Core.Path.{_≡_, refl, sym, ap, ap₂, _∙_}
 use borrow.Author.Tests.{eqb-true, eqb-false}
 use lib.Dec.{eqb}
 use lib.IntN.{ℤ, pos, negsuc, _-ℤ_}
@@ -19,11 +19,13 @@ use Rattle.basis.proofs.Signed.{minus-fits}
 use Rattle.refusal.specs.Test.{inRange}
 use Rattle.refusal.proofs.Tests.{range-is}
 use Rattle.plane.specs.Source.{eightOf}
-use Rattle.coding.specs.Told.{ResidualRange}
+use Rattle.coding.specs.Residual.{ResidualRange}
 
 module _ (a b : ℕ) (h : a < 2 ^ 8) (k : b < 2 ^ 8) where
   pub difference-read : toZ w32 (ofZ w32 (toZ w32 a -ℤ toZ w32 b)) ≡ pos a -ℤ pos b
-  difference-read = toZ-ofZ w32 (toZ w32 a -ℤ toZ w32 b) (minus-fits a b (omega arith) (omega arith)) ∙ ap₂ _-ℤ_ (toZ-pos w32 a (omega arith)) (toZ-pos w32 b (omega arith))
+  difference-read =
+      toZ-ofZ w32 (toZ w32 a -ℤ toZ w32 b) (minus-fits a b (omega arith) (omega arith))
+      ∙ ap₂ _-ℤ_ (toZ-pos w32 a (omega arith)) (toZ-pos w32 b (omega arith))
 
   pub difference-in : inRange (negsuc 254) (pos 255) (pos a -ℤ pos b) ≡ true
   difference-in =
@@ -32,7 +34,7 @@ module _ (a b : ℕ) (h : a < 2 ^ 8) (k : b < 2 ^ 8) where
       range-is (negsuc 254) (pos 255) (pos a -ℤ pos b) (omega arith) (omega arith)
 
 -- after k of 64 turns
-pub record Stored (f : ℕ → ℤ) (out₀ out : List ℤ) (k : ℕ) : Type 0 where
+pub record ResidualSoFar (f : ℕ → ℤ) (out₀ out : List ℤ) (k : ℕ) : Type 0 where
   pub turns : k ≤ 64
   pub was : length out₀ ≡ 64
   pub long : length out ≡ 64
@@ -40,14 +42,14 @@ pub record Stored (f : ℕ → ℤ) (out₀ out : List ℤ) (k : ℕ) : Type 0 w
   pub small : (j : ℕ) → j < k → inRange (negsuc 254) (pos 255) (getD out j (pos 0)) ≡ true
 
 module _ (f : ℕ → ℤ) where
-  pub stored-none : (out₀ : List ℤ) → length out₀ ≡ 64 → Stored f out₀ out₀ 0
+  pub stored-none : (out₀ : List ℤ) → length out₀ ≡ 64 → ResidualSoFar f out₀ out₀ 0
   stored-none out₀ e = record { turns = omega arith; was = e; long = e; is = sym (filled-none f out₀); small = λ j h. absurd (none j h) }
     where
       none : (j : ℕ) → j < 0 → ⊥
       none j h = omega arith
 
-  pub stored-more : (out₀ out : List ℤ) (k : ℕ) (v : ℤ) → Stored f out₀ out k → k < 64 → v ≡ f k
-      → inRange (negsuc 254) (pos 255) v ≡ true → Stored f out₀ (set out k v) (k + 1)
+  pub stored-more : (out₀ out : List ℤ) (k : ℕ) (v : ℤ) → ResidualSoFar f out₀ out k → k < 64 → v ≡ f k
+      → inRange (negsuc 254) (pos 255) v ≡ true → ResidualSoFar f out₀ (set out k v) (k + 1)
   stored-more out₀ out k v s h e r =
       record {
         turns = omega arith;
@@ -67,7 +69,7 @@ module _ (f : ℕ → ℤ) where
           let other = eqb-false j k q in
           ap (inRange (negsuc 254) (pos 255)) (getD-set-other out k j v (pos 0) other) ∙ s .small j (omega arith)
 
-  pub stored-end : (out₀ out : List ℤ) (k : ℕ) → Stored f out₀ out k → 64 ≤ k → (out ≡ tabulate 64 f) × ResidualRange 64 out
+  pub stored-end : (out₀ out : List ℤ) (k : ℕ) → ResidualSoFar f out₀ out k → 64 ≤ k → (out ≡ tabulate 64 f) × ResidualRange 64 out
   stored-end out₀ out k s h =
       let e : length out₀ ≡ k = omega (arith, s .was, s .turns) in
       (filled-end k f out₀ out (s .is) e ∙ ap (λ (n : ℕ). tabulate n f) (s .was), record { at = λ i l. s .small i (omega arith) })

@@ -7,7 +7,6 @@ use borrow.Author.Tests.{eqb-true}
 use lib.Dec.{eqb}
 use lib.IntN.{ℤ, pos}
 use lib.ListN.{length, getD, replicate}
-use Rattle.basis.specs.Lists.{rows}
 use Rattle.basis.proofs.Lists.{getD-tabulate, row-of, rows-cong}
 use Rattle.record.specs.Pattern.{isCoded}
 use Rattle.fdct.specs.Block.{coefficients}
@@ -51,7 +50,8 @@ module _ (by : Quantising) where
   block-back : (block : List ℤ) (coded : Bool) → coded ≡ not (eqb (countOf by block) 0) → read coded (by .scan) (blockAreas by block) ≡ quantised by block
   block-back block true e = block-reads-back (by .scan) (quantised by block) (quantised-length block) .same
   block-back block false e =
-      sym (block-reads-back (by .scan) (quantised by block) (quantised-length block) .empty (eqb-true (countOf by block) 0 (clear (eqb (countOf by block) 0) e)))
+      let none = eqb-true (countOf by block) 0 (clear (eqb (countOf by block) 0) e) in
+      sym (block-reads-back (by .scan) (quantised by block) (quantised-length block) .empty none)
     where
       clear : (t : Bool) → false ≡ not t → t ≡ true
       clear true e = refl
@@ -84,7 +84,8 @@ module _ (by : Quantising) where
           ap (λ (a : Areas). read coded (h .scan) (partsOf b a)) held
           ∙ ap (read coded (h .scan)) (parts-at b less)
           ∙ ap (λ (s : ℕ). read coded s (blockAreas by (partOf b residual))) scan
-          ∙ block-back (partOf b residual) coded (coded-is (h .coded) (countsOf by residual) luma chroma b less ∙ ap (λ (n : ℕ). not (eqb n 0)) (count-at b less))
+          ∙ block-back (partOf b residual) coded
+          (coded-is (h .coded) (countsOf by residual) luma chroma b less ∙ ap (λ (n : ℕ). not (eqb n 0)) (count-at b less))
 
       pub levels-back : readLevels h ≡ levelsOf by residual
       unfolding readLevels levelsOf

@@ -1,18 +1,17 @@
 -- Every level of the second method is near its coefficient, at each of 384 places. Assumes nothing.
 use Prim.Native.Nat.{ℕ, _+_, _*_, _/_, _%_, _<_}
 use native.Mathlib.Omega.{arith}
-use mathlib.Core.Bool.{Bool, false}
+use mathlib.Core.Bool.{false}
 use mathlib.Core.List.{List}
-use mathlib.Core.Path.{_≡_, sym, ap, subst, _∙_}
+use mathlib.Core.Path.{_≡_, subst}
 use lib.IntN.{ℤ, pos}
 use lib.ListN.{getD}
 use Rattle.basis.specs.Lists.{rows}
 use Rattle.basis.proofs.Lists.{getD-rows}
 use Rattle.fdct.specs.Block.{coefficients}
 use Rattle.fdct.proofs.Ranges.{coefficients-length}
-use Rattle.quantise.specs.Block.{blockLevels, quantiseReply}
 use Rattle.quantise.specs.Near.{Near, NearAll}
-use Rattle.quantise.proofs.Near.{near-all}
+use Rattle.quantise.proofs.Near.{near-by-method}
 use Rattle.reader.specs.Handed.{partOf}
 use Rattle.coding.specs.Coding.{Quantising, quantised, transformed, levelsOf}
 use Rattle.coding.specs.Told.{Quantisable}
@@ -23,11 +22,7 @@ module _ (by : Quantising) (set : Quantisable by) (second : by .first ≡ false)
   block-near : (block : List ℤ) → NearAll (by .quantiser) (coefficients block) (quantised by block)
   unfolding quantised
   block-near block =
-      let fs = coefficients block in
-      let q = by .quantiser in
-      let w = by .weights in
-      subst (λ (t : Bool). NearAll q fs (blockLevels t q w fs)) (sym second)
-      (near-all fs q w 64 (ap (λ (t : Bool). quantiseReply fs q t w 64) (sym second) ∙ quantise-done by set block))
+      near-by-method (coefficients block) (by .quantiser) (by .first) (by .weights) 64 second (quantise-done by set block)
 
   module _ (residual : List ℤ) where
     abbrev coefficientsAt : ℕ → List ℤ
@@ -37,7 +32,8 @@ module _ (by : Quantising) (set : Quantisable by) (second : by .first ≡ false)
     quantisedAt b = quantised by (partOf b residual)
 
     -- place k of block b
-    at-place : (b k : ℕ) → b < 6 → k < 64 → Near (by .quantiser) (getD (rows 6 coefficientsAt) (b * 64 + k) (pos 0)) (getD (rows 6 quantisedAt) (b * 64 + k) (pos 0))
+    at-place : (b k : ℕ) → b < 6 → k < 64
+        → Near (by .quantiser) (getD (rows 6 coefficientsAt) (b * 64 + k) (pos 0)) (getD (rows 6 quantisedAt) (b * 64 + k) (pos 0))
     at-place b k h l =
         rw (
           getD-rows 64 coefficientsAt (λ b. coefficients-length (partOf b residual)) 6 k b (pos 0) l h,

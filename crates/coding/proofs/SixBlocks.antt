@@ -1,7 +1,7 @@
 -- Six blocks of a residual: which samples a block is the difference of, and that all six are small where each is. Assumes nothing.
 use Prim.Native.Nat.{ℕ, _+_, _*_, _/_, _%_, _<_}
 use native.Mathlib.Omega.{arith}
-use mathlib.Core.Bool.{Bool, true, false, cond}
+use mathlib.Core.Bool.{true, false, cond}
 use mathlib.Core.List.{List}
 use mathlib.Core.Path.{_≡_, sym, ap, ap₂, _∙_}
 use lib.Dec.{eqb, ltb}
@@ -12,8 +12,7 @@ use Rattle.basis.proofs.Case.{then, else}
 use Rattle.basis.proofs.Lists.{length-tabulate, getD-rows, length-rows}
 use Rattle.refusal.specs.Test.{inRange}
 use Rattle.plane.specs.Source.{eightOf}
-use Rattle.coding.specs.Residual.{Samples, samplesOf, blockResidual, residualOf}
-use Rattle.coding.specs.Told.{ResidualRange}
+use Rattle.coding.specs.Residual.{Samples, samplesOf, blockResidual, residualOf, ResidualRange}
 
 pub block-length : (s p : List ℕ) → length (blockResidual s p) ≡ 64
 block-length s p = length-tabulate 64 (λ k. pos (getD s k 0) -ℤ pos (getD p k 0))

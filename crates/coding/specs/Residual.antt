@@ -1,14 +1,16 @@
 -- The residual of a macroblock (`macroblock_residual`): source less the prediction coded against, in six blocks of 64.
-use Prim.Native.Nat.{ℕ}
-use mathlib.Core.Bool.{cond}
+use Prim.Native.Nat.{ℕ, _<_}
+use mathlib.Core.Bool.{true, cond}
 use mathlib.Core.List.{List}
+use mathlib.Core.Path.{_≡_}
 use lib.Dec.{eqb, ltb}
-use lib.IntN.{ℤ, pos, _-ℤ_}
+use lib.IntN.{ℤ, pos, negsuc, _-ℤ_}
 use lib.ListN.{getD}
 use Rattle.basis.specs.Lists.{tabulate, rows}
+use Rattle.refusal.specs.Test.{inRange}
 use Rattle.plane.specs.declared.SourceSize.{SourceSize}
 use Rattle.plane.specs.declared.MacroblockPlace.{MacroblockPlace}
-use Rattle.plane.specs.Source.{lumaBlock, chromaBlock, eightOf}
+use Rattle.plane.specs.Source.{sourceLuma, sourceChroma, eightOf}
 
 -- samples of a macroblock: 16 x 16 of luma, 8 x 8 of Cb and of Cr, each by rows
 pub record Samples : Type 0 where
@@ -33,4 +35,8 @@ residualOf source prediction = rows 6 (λ b. blockResidual (samplesOf source b) 
 
 -- the macroblock's samples of the source, past the right or bottom the last column or row repeated
 abbrev pub sourceOf : List ℕ → List ℕ → List ℕ → SourceSize → MacroblockPlace → Samples
-sourceOf y cb cr size place = samples (lumaBlock y size place) (chromaBlock cb size place) (chromaBlock cr size place)
+sourceOf y cb cr size place = samples (sourceLuma y size place) (sourceChroma cb size place) (sourceChroma cr size place)
+
+-- the first n lie in -255..255, as differences of bytes do
+pub record ResidualRange (n : ℕ) (l : List ℤ) : Type 0 where
+  pub at : (i : ℕ) → i < n → inRange (negsuc 254) (pos 255) (getD l i (pos 0)) ≡ true

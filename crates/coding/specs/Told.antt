@@ -1,17 +1,17 @@
--- What functions are told of samples, residuals and settings.
+-- Told, not believed: what private functions need of samples, residuals and settings.
 use Prim.Native.Nat.{ℕ, _<_}
 use mathlib.Core.Bool.{true}
 use mathlib.Core.List.{List}
 use mathlib.Core.Path.{_≡_}
-use lib.IntN.{ℤ, pos, negsuc}
-use lib.ListN.{length, getD}
+use lib.IntN.{ℤ}
+use lib.ListN.{length}
 use Rattle.refusal.specs.declared.Reply.the-variants.{Done}
-use Rattle.refusal.specs.Test.{between, inRange}
+use Rattle.refusal.specs.Test.{between}
 use Rattle.quantise.specs.Block.{weightReply}
 use Rattle.plane.specs.declared.SourceSize.{SourceSize}
 use Rattle.plane.specs.declared.MacroblockPlace.{MacroblockPlace}
 use Rattle.plane.specs.Source.{sourceReply}
-use Rattle.coding.specs.Residual.{Samples}
+use Rattle.coding.specs.Residual.{Samples, ResidualRange}
 use Rattle.coding.specs.Coding.{Quantising}
 
 -- the samples of a macroblock
@@ -20,9 +20,12 @@ pub record Whole (s : Samples) : Type 0 where
   pub blue : length (s .cb) ≡ 64
   pub red : length (s .cr) ≡ 64
 
--- the first n lie in -255..255, as differences of bytes do
-pub record ResidualRange (n : ℕ) (l : List ℤ) : Type 0 where
-  pub at : (i : ℕ) → i < n → inRange (negsuc 254) (pos 255) (getD l i (pos 0)) ≡ true
+-- two macroblocks' luma, a block of them, and the area for their difference
+pub record LumaNeeds (source prediction n area : ℕ) : Type 0 where
+  pub source-long : source ≡ 256
+  pub prediction-long : prediction ≡ 256
+  pub of-four : n < 4
+  pub area-long : area ≡ 64
 
 -- neither 10, 11, 12 of the matrix nor 14 of the scan applies
 pub record Quantisable (by : Quantising) : Type 0 where

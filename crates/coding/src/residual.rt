@@ -6,8 +6,8 @@ ghost use lib.IntN.{pos, negsuc, _-ℤ_};
 ghost use lib.ListN.{length};
 ghost use Rattle.refusal.specs.Test.{inRange};
 ghost use Rattle.plane.specs.Source.{eightOf};
-ghost use Rattle.coding.specs.Residual.{samples, samplesOf, blockResidual, residualOf, sourceOf};
-ghost use Rattle.coding.specs.Told.{ResidualRange, Whole, ResidualAccepted};
+ghost use Rattle.coding.specs.Residual.{samples, samplesOf, blockResidual, residualOf, sourceOf, ResidualRange};
+ghost use Rattle.coding.specs.Told.{Whole, LumaNeeds, ResidualAccepted};
 use plane::MacroblockPlace;
 use plane::SourceSize;
 
@@ -19,7 +19,7 @@ fn difference(a: u8, b: u8) -> i32
 
 // 8 x 8 block n of two macroblocks' luma.
 fn luma_residual(source: &[u8], prediction: &[u8], n: usize, out: &mut [i32])
-    requires { ⌜ (length (now source) ≡ 256) × (length (now prediction) ≡ 256) × (n < 4) × (length (now out) ≡ 64) ⌝ }
+    requires { ⌜ LumaNeeds (length (now source)) (length (now prediction)) n (length (now out)) ⌝ }
     ensures { λ _. ⌜ now (out .exit) ≡ blockResidual (eightOf (now (source .entry)) n) (eightOf (now (prediction .entry)) n) ⌝ }
     ensures { λ _. ⌜ ResidualRange 64 (now (out .exit)) ⌝ }
 {

@@ -12,14 +12,14 @@ use Rattle.half_sample.specs.Average.{average2Of, average4Of}
 use Rattle.quarter_sample.specs.declared.QuarterPel.{QuarterPel}
 use Rattle.quarter_sample.specs.Split.{splitQuarter}
 use Rattle.quarter_sample.specs.Filter.{mirror, fir, largest}
-use Rattle.quantise.specs.Level.{levelOf, levelByWeight, inverseOf}
+use Rattle.quantise.specs.Level.{levelByQuantiser, levelByWeight, inverseByQuantiser}
 use Rattle.scan.specs.Event.{eventsOf, lastsArea, runsArea, levelsArea}
 use Rattle.scan.specs.Grid.{gridOf, scanned}
 use Rattle.record.specs.declared.MotionVector.{MotionVector}
 use Rattle.coding.specs.Coding.{lumaPattern, chromaPattern}
 use Rattle.search.specs.Range.{low, high}
+use Rattle.search.specs.Request.{settingsOf}
 use Rattle.search.specs.Sub.{start}
-use Rattle.search.specs.Estimate.{modeOf}
 
 abbrev pub equalZ : ℤ → ℤ → Bool
 equalZ a b = leZ a b && leZ b a
@@ -33,7 +33,7 @@ quarters s whole fraction = equalZ (s .whole) whole && eqb (s .fraction) fractio
 
 -- where the sub-sample search of quarter mode, mode 1, starts at fcode 1 from full +8 across and -8 down
 abbrev pub quarterStart : MotionVector
-quarterStart = start (modeOf 1 8) 1 (record { x = pos 8; y = negsuc 7 })
+quarterStart = start (settingsOf 0 1 8 1) (record { x = pos 8; y = negsuc 7 })
 
 unfoldable pub ranges : List Bool
 ranges =
@@ -84,13 +84,13 @@ reflections = eqb (mirror 9 (negsuc 2)) 2 ∷ eqb (mirror 9 (pos 9)) 8 ∷ eqb (
 unfoldable pub levels : List Bool
 levels =
     -- q 5: 11 gives 0, 12 gives 1, -12 gives -1, 22 gives 2
-    equalZ (levelOf 5 (pos 11)) (pos 0)
-    ∷ equalZ (levelOf 5 (pos 12)) (pos 1)
-    ∷ equalZ (levelOf 5 (negsuc 11)) (negsuc 0)
-    ∷ equalZ (levelOf 5 (pos 22)) (pos 2)
+    equalZ (levelByQuantiser 5 (pos 11)) (pos 0)
+    ∷ equalZ (levelByQuantiser 5 (pos 12)) (pos 1)
+    ∷ equalZ (levelByQuantiser 5 (negsuc 11)) (negsuc 0)
+    ∷ equalZ (levelByQuantiser 5 (pos 22)) (pos 2)
     -- level 1 returns 15 at q 5, and 11 at q 4
-    ∷ equalZ (inverseOf 5 (pos 1)) (pos 15)
-    ∷ equalZ (inverseOf 4 (pos 1)) (pos 11)
+    ∷ equalZ (inverseByQuantiser 5 (pos 1)) (pos 15)
+    ∷ equalZ (inverseByQuantiser 4 (pos 1)) (pos 11)
     -- w 16, q 1: 2 gives 0, 3 gives 1; w 1, q 1: 300 gives 2,047
     ∷ equalZ (levelByWeight 16 1 (pos 2)) (pos 0)
     ∷ equalZ (levelByWeight 16 1 (pos 3)) (pos 1)

@@ -10,7 +10,7 @@ use borrow.Author.Tests.{eqb-true}
 use Rattle.refusal.specs.declared.Refusal.the-variants.{Length, Range}
 use Rattle.refusal.specs.declared.Reply.the-variants.{Done}
 use Rattle.refusal.specs.Reply.{unless}
-use Rattle.refusal.proofs.Replies.{first-done, held}
+use Rattle.refusal.proofs.Replies.{first-done, unless-done}
 use Rattle.refusal.proofs.Tests.{and-left, and-right}
 use Rattle.refusal.specs.Test.{allInRange}
 use Rattle.fdct.specs.Reply.{dctReply}
@@ -18,7 +18,7 @@ use Rattle.fdct.specs.Reply.{dctReply}
 tested : (r : List ℤ) (n : ℕ) → dctReply r n ≡ Done → (eqb (length r) 64 && eqb n 64) ≡ true
 unfolding dctReply
 tested r n e =
-    held (eqb (length r) 64 && eqb n 64) Length Done
+    unless-done (eqb (length r) 64 && eqb n 64) Length Done
     (first-done (unless (eqb (length r) 64 && eqb n 64) Length Done) (unless (allInRange (negsuc 254) (pos 255) r) Range Done) e)
 
 pub lengths : (r : List ℤ) (n : ℕ) → dctReply r n ≡ Done → (length r ≡ 64) × (n ≡ 64)

@@ -1,4 +1,5 @@
 -- Laws that several proofs cite.
+mod Cuts
 mod Halves
 mod Lengths
 mod Lines

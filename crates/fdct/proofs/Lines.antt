@@ -11,7 +11,7 @@ use Rattle.basis.proofs.Lists.{getD-tabulate, tabulate-cong}
 use Rattle.fdct.specs.Cosine.{cosine, cosines}
 use Rattle.fdct.specs.Double.{halfDouble}
 use Rattle.fdct.specs.Line.{weightedSum, weight, fdct1d}
-use Rattle.fdct.specs.Pass.{entries, columnOf, passedAt}
+use Rattle.fdct.specs.Told.{entries, columnOf, passedAt}
 
 -- place x of row u, in rows of eight
 pub row-of : (u x : ℕ) → x < 8 → (u * 8 + x) / 8 ≡ u
@@ -35,14 +35,20 @@ table-at table e u x hu hx =
 abbrev pub sumsOf : List Float → ℕ → ℕ → List Float
 sumsOf block u x = tabulate 8 (λ j. weightedSum (columnOf (entries block) j) u x)
 
+-- row x times its cosine, added
+abbrev addedAt : List Float → List Float → List Float → ℕ → ℕ → ℕ → Float
+addedAt table block sums u x j = add binary64 (entries sums j) (mul binary64 (entries block (x * 8 + j)) (getD table (u * 8 + x) nan))
+
 pub sums-more : (table block sums more : List Float) (u x : ℕ) → table ≡ cosines → u < 8 → x < 8 → sums ≡ sumsOf block u x
-    → more ≡ tabulate 8 (λ j. add binary64 (entries sums j) (mul binary64 (entries block (x * 8 + j)) (getD table (u * 8 + x) nan)))
-    → more ≡ sumsOf block u (x + 1)
+    → more ≡ tabulate 8 (addedAt table block sums u x) → more ≡ sumsOf block u (x + 1)
 unfolding weightedSum
 sums-more table block sums more u x et hu hx es em =
     em
-    ∙ tabulate-cong 8 (λ j. add binary64 (entries sums j) (mul binary64 (entries block (x * 8 + j)) (getD table (u * 8 + x) nan))) (λ j. weightedSum (columnOf (entries block) j) u (suc x))
-    (λ j h. ap₂ (λ (s w : Float). add binary64 s (mul binary64 (entries block (x * 8 + j)) w)) (ap (λ (l : List Float). getD l j nan) es ∙ getD-tabulate 8 (λ k. weightedSum (columnOf (entries block) k) u x) j nan h) (table-at table et u x hu hx))
+    ∙ tabulate-cong 8 (addedAt table block sums u x) (λ j. weightedSum (columnOf (entries block) j) u (suc x))
+    (λ j h.
+    ap₂ (λ (s w : Float). add binary64 s (mul binary64 (entries block (x * 8 + j)) w))
+    (ap (λ (l : List Float). getD l j nan) es ∙ getD-tabulate 8 (λ k. weightedSum (columnOf (entries block) k) u x) j nan h)
+    (table-at table et u x hu hx))
     ∙ ap (sumsOf block u) (sym (add-one x))
 
 -- row u of a pass
@@ -52,7 +58,9 @@ unfolding fdct1d
 row-is block sums row u scale es ec er =
     er
     ∙ tabulate-cong 8 (λ j. mul binary64 scale (entries sums j)) (λ j. passedAt (entries block) j u)
-    (λ j h. ap₂ (mul binary64) ec (ap (λ (l : List Float). getD l j nan) es ∙ getD-tabulate 8 (λ k. weightedSum (columnOf (entries block) k) u 8) j nan h))
+    (λ j h.
+    ap₂ (mul binary64) ec
+    (ap (λ (l : List Float). getD l j nan) es ∙ getD-tabulate 8 (λ k. weightedSum (columnOf (entries block) k) u 8) j nan h))
 
 -- a line's transform looks at its eight places only
 sum-cong : (f g : ℕ → Float) (u n : ℕ) → ((x : ℕ) → x < n → f x ≡ g x) → weightedSum f u n ≡ weightedSum g u n

@@ -8,24 +8,16 @@ use lib.IntN.{ℤ, pos, negsuc, negℤ}
 use lib.Ieee.{Float}
 use lib.ListN.{length, getD}
 use Rattle.basis.proofs.Lists.{length-tabulate, getD-tabulate}
-use Rattle.basis.proofs.Parts.{above-neg, below-neg}
 use Rattle.refusal.specs.Test.{inRange, allInRange}
 use Rattle.refusal.proofs.Every.{all-in-range}
-use Rattle.refusal.proofs.Tests.{range-is}
+use Rattle.refusal.proofs.Tests.{cut-in}
 use Rattle.fdct.specs.Block.{sample, coefficient, coefficients}
 use Rattle.fdct.specs.Line.{fdct1d}
-use Rattle.fdct.specs.Rounding.{magnitude, negative, clamped, coefficientOf}
-
-clamped-in : (minus : Bool) (n : ℕ) → inRange (negsuc 2047) (pos 2047) (clamped minus n) ≡ true
-clamped-in false n = range-is (negsuc 2047) (pos 2047) (pos (min n 2047)) (omega arith) (omega arith)
-clamped-in true n =
-    let a = above-neg (pos (min n 2048)) in
-    let b = below-neg (pos (min n 2048)) in
-    range-is (negsuc 2047) (pos 2047) (negℤ (pos (min n 2048))) (omega arith) (omega arith)
+use Rattle.fdct.specs.Rounding.{roundedSize, negative, withSign, coefficientOf}
 
 coefficient-in : (x : Float) → inRange (negsuc 2047) (pos 2047) (coefficientOf x) ≡ true
 unfolding coefficientOf
-coefficient-in x = clamped-in (negative x) (magnitude x)
+coefficient-in x = cut-in (negsuc 2047) (pos 2047) (withSign (negative x) (roundedSize x)) (omega arith)
 
 entry-in : (r : List ℤ) (v u : ℕ) → inRange (negsuc 2047) (pos 2047) (coefficient r v u) ≡ true
 unfolding coefficient

@@ -1,4 +1,4 @@
--- What the tests of a double against 0, 4096 and itself tell of its magnitude and its coefficient. Assumes nothing.
+-- What the tests of a double against 0, 4096 and itself tell of its roundedSize and its coefficient. Assumes nothing.
 use mathlib.Core.Path.{_≡_, refl, sym, ap, _∙_, subst}
 use mathlib.Core.Logic.{inl, inr}
 use mathlib.Core.Bool.{Bool, true, false, cond, not, _&&_, _||_, true≢false}
@@ -12,7 +12,9 @@ use lib.Ieee.{Float, nan, inf, fin, up, down, lt, le, eq, ne, neg}
 use lib.Ieee.Fits.{down-pos}
 use lib.Ieee.Compare.{differs-from-itself}
 use Rattle.fdct.specs.Double.{zeroDouble}
-use Rattle.fdct.specs.Rounding.{nearestUp, magnitude, clamped, coefficientOf}
+use Rattle.fdct.specs.Rounding.{nearestUp, roundedSize, negative, coefficientOf}
+use Rattle.fdct.specs.Told.{cutSize}
+use Rattle.fdct.proofs.Cuts.{cut-size}
 
 -- 4096
 abbrev pub top : Float
@@ -35,16 +37,16 @@ split a b h = elim (eq-or-lt-of-le h) [
 ]
 
 -- ---- the sign
-same-magnitude : (x : Float) → magnitude (neg x) ≡ magnitude x
-unfolding neg magnitude
+same-magnitude : (x : Float) → roundedSize (neg x) ≡ roundedSize x
+unfolding neg roundedSize
 same-magnitude nan = refl
 same-magnitude (inf s) = refl
 same-magnitude (fin s m e) = refl
 
-pub sized-magnitude : (x : Float) → magnitude (sized x) ≡ magnitude x
+pub sized-magnitude : (x : Float) → roundedSize (sized x) ≡ roundedSize x
 sized-magnitude x = go (lt x zeroDouble)
   where
-    go : (b : Bool) → magnitude (cond b (neg x) x) ≡ magnitude x
+    go : (b : Bool) → roundedSize (cond b (neg x) x) ≡ roundedSize x
     go true = same-magnitude x
     go false = refl
 
@@ -62,7 +64,9 @@ unfolding le lt
 kept nan t h = absurd (true≢false (sym h))
 kept (inf true) t h = absurd (true≢false t)
 kept (inf false) t h = refl
-kept (fin true m e) t h = let k = ltb-false 0 (m * up e * 1 + 0 * down e) t in simp (eq-eqb (0 * down e) (m * up e * 1) (omega arith), eq-eqb (0 * down e) 0 (omega arith))
+kept (fin true m e) t h =
+    let k = ltb-false 0 (m * up e * 1 + 0 * down e) t in
+    simp (eq-eqb (0 * down e) (m * up e * 1) (omega arith), eq-eqb (0 * down e) 0 (omega arith))
 kept (fin false m e) t h = split (0 * down e) (m * up e * 1) (omega arith)
 
 pub sized-up : (x : Float) → lt (sized x) top ≡ true → le zeroDouble (sized x) ≡ true
@@ -73,8 +77,8 @@ sized-up x = go (lt x zeroDouble) refl
     go false t h = kept x t h
 
 -- ---- past the range, and a NaN
-pub past-top : (x : Float) → eq x x ≡ true → lt (sized x) top ≡ false → 4096 ≤ magnitude x
-unfolding magnitude eq neg lt
+pub past-top : (x : Float) → eq x x ≡ true → lt (sized x) top ≡ false → 4096 ≤ roundedSize x
+unfolding roundedSize eq neg lt
 past-top nan t h = absurd (true≢false (sym t))
 past-top (inf s) t h = le-refl 4096
 past-top (fin s m e) t h = go s (lt (fin s m e) zeroDouble) h
@@ -85,21 +89,25 @@ past-top (fin s m e) t h = go s (lt (fin s m e) zeroDouble) h
     go false true h = let D = down-pos e in let k = ltb-false 0 (m * up e * 1 + 4096 * down e) h in absurd (omega arith)
     go false false h = let k = ltb-false (m * up e * 1) (4096 * down e) h in large (m * up e) (down e) (down-pos e) (omega arith)
 
-pub no-number : (x : Float) → eq x x ≡ false → magnitude x ≡ 0
-unfolding magnitude ne
-no-number x t = ap magnitude (differs-from-itself x (subst (λ (b : Bool). T (not b)) (sym t) tt))
+pub no-number : (x : Float) → eq x x ≡ false → roundedSize x ≡ 0
+unfolding roundedSize ne
+no-number x t = ap roundedSize (differs-from-itself x (subst (λ (b : Bool). T (not b)) (sym t) tt))
 
--- ---- the coefficient, from the sign's test and the magnitude
-under : (x : Float) → lt x zeroDouble ≡ true → coefficientOf x ≡ negℤ (pos (min (magnitude x) 2048))
-unfolding coefficientOf lt
+-- ---- the coefficient, from the sign's test and the roundedSize
+cut : (x : Float) → coefficientOf x ≡ cutSize (negative x) (roundedSize x)
+unfolding coefficientOf
+cut x = cut-size (negative x) (roundedSize x)
+
+under : (x : Float) → lt x zeroDouble ≡ true → cutSize (negative x) (roundedSize x) ≡ negℤ (pos (min (roundedSize x) 2048))
+unfolding roundedSize lt
 under nan t = absurd (true≢false (sym t))
 under (inf true) t = refl
 under (inf false) t = absurd (true≢false (sym t))
 under (fin true m e) t = refl
 under (fin false m e) t = let h = ltb-true (m * up e * 1) (0 * down e) t in absurd (omega arith)
 
-over : (x : Float) → lt x zeroDouble ≡ false → coefficientOf x ≡ pos (min (magnitude x) 2047)
-unfolding coefficientOf lt
+over : (x : Float) → lt x zeroDouble ≡ false → cutSize (negative x) (roundedSize x) ≡ pos (min (roundedSize x) 2047)
+unfolding roundedSize lt
 over nan t = refl
 over (inf true) t = absurd (true≢false t)
 over (inf false) t = refl
@@ -109,9 +117,9 @@ over (fin true m e) t =
     ap (λ (j : ℕ). negℤ (pos (min j 2048))) n ∙ sym (ap (λ (j : ℕ). pos (min j 2047)) n)
 over (fin false m e) t = refl
 
-pub by-sign : (x : Float) → clamped (lt x zeroDouble) (min (magnitude x) 4096) ≡ coefficientOf x
+pub by-sign : (x : Float) → cutSize (lt x zeroDouble) (min (roundedSize x) 4096) ≡ coefficientOf x
 by-sign x = go (lt x zeroDouble) refl
   where
-    go : (b : Bool) → lt x zeroDouble ≡ b → clamped b (min (magnitude x) 4096) ≡ coefficientOf x
-    go true t = ap (λ (n : ℕ). negℤ (pos n)) (let e : min (min (magnitude x) 4096) 2048 ≡ min (magnitude x) 2048 = omega arith in e) ∙ sym (under x t)
-    go false t = ap pos (let e : min (min (magnitude x) 4096) 2047 ≡ min (magnitude x) 2047 = omega arith in e) ∙ sym (over x t)
+    go : (b : Bool) → lt x zeroDouble ≡ b → cutSize b (min (roundedSize x) 4096) ≡ coefficientOf x
+    go true t = ap (λ (n : ℕ). negℤ (pos n)) (let e : min (min (roundedSize x) 4096) 2048 ≡ min (roundedSize x) 2048 = omega arith in e) ∙ sym (under x t) ∙ sym (cut x)
+    go false t = ap pos (let e : min (min (roundedSize x) 4096) 2047 ≡ min (roundedSize x) 2047 = omega arith in e) ∙ sym (over x t) ∙ sym (cut x)

@@ -10,7 +10,7 @@ use Rattle.basis.specs.Lists.{tabulate, raster}
 use Rattle.basis.proofs.Lists.{getD-tabulate, tabulate-cong, getD-raster}
 use Rattle.fdct.specs.Block.{sample, coefficient, coefficients}
 use Rattle.fdct.specs.Line.{fdct1d}
-use Rattle.fdct.specs.Pass.{entries, columnOf, swappedAt, passedAt}
+use Rattle.fdct.specs.Told.{entries, columnOf, swappedAt, passedAt}
 use Rattle.fdct.specs.Rounding.{coefficientOf}
 use Rattle.fdct.proofs.Lines.{row-of, column-of, inside, fdct1d-cong}
 
@@ -32,7 +32,12 @@ passed-at l block f u j e hu hj h =
 place : (k : ℕ) → k ≡ k / 8 * 8 + k % 8
 place k = omega arith
 
-module _ (r : List ℤ) (block across rows down : List Float) (eb : block ≡ tabulate 64 (swappedAt (sample r))) (ea : across ≡ raster 8 8 (passedAt (entries block))) (er : rows ≡ tabulate 64 (swappedAt (λ y x. entries across (y * 8 + x)))) (ed : down ≡ raster 8 8 (passedAt (entries rows))) where
+module _
+    (r : List ℤ) (block across rows down : List Float)
+    (eb : block ≡ tabulate 64 (swappedAt (sample r)))
+    (ea : across ≡ raster 8 8 (passedAt (entries block)))
+    (er : rows ≡ tabulate 64 (swappedAt (λ y x. entries across (y * 8 + x))))
+    (ed : down ≡ raster 8 8 (passedAt (entries rows))) where
   rows-at : (y u : ℕ) → y < 8 → u < 8 → columnOf (entries rows) u y ≡ fdct1d (sample r y) u
   rows-at y u hy hu =
       swapped-at rows (λ a b. entries across (a * 8 + b)) y u er hy hu

@@ -6,20 +6,20 @@ use lib.Dec.{leb}
 use lib.Ieee.{Float, nan, neg}
 use lib.ListN.{getD}
 use Rattle.basis.specs.Lists.{tabulate}
-use Rattle.fdct.specs.Double.{zeroDouble, oneDouble, decimal}
+use Rattle.fdct.specs.Double.{zeroDouble, oneDouble, nearestDouble}
 
 -- C[0] is 1, C[8] is 0, and C[1..7] are the doubles nearest these decimals
 unfoldable pub quarter : List Float
-unfolding decimal
+unfolding nearestDouble
 quarter =
     oneDouble
-    ∷ decimal 98078528040323044913
-    ∷ decimal 92387953251128675613
-    ∷ decimal 83146961230254523708
-    ∷ decimal 70710678118654752440
-    ∷ decimal 55557023301960222474
-    ∷ decimal 38268343236508977173
-    ∷ decimal 19509032201612826785
+    ∷ nearestDouble 98078528040323044913
+    ∷ nearestDouble 92387953251128675613
+    ∷ nearestDouble 83146961230254523708
+    ∷ nearestDouble 70710678118654752440
+    ∷ nearestDouble 55557023301960222474
+    ∷ nearestDouble 38268343236508977173
+    ∷ nearestDouble 19509032201612826785
     ∷ zeroDouble
     ∷ []
 

@@ -15,6 +15,6 @@ abbrev pub halfDouble : Float
 halfDouble = fin false 1 (negsuc 0)
 
 -- the double nearest n / 10 ^ 20, a decimal of twenty places
-unfoldable pub decimal : ℕ → Float
+unfoldable pub nearestDouble : ℕ → Float
 unfolding round
-decimal n = round binary64 false n (10 ^ 20)
+nearestDouble n = round binary64 false n (10 ^ 20)

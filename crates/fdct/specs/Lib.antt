@@ -1,7 +1,9 @@
+-- To be believed.
 pub mod Double
 pub mod Cosine
 pub mod Line
 pub mod Rounding
 pub mod Block
 pub mod Reply
-pub mod Pass
+-- Told.
+pub mod Told

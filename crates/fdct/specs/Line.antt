@@ -3,7 +3,7 @@ use Prim.Native.Nat.{ℕ, zero, suc}
 use mathlib.Core.Bool.{cond}
 use lib.Dec.{eqb}
 use lib.Ieee.{Float, binary64, add, mul}
-use Rattle.fdct.specs.Double.{zeroDouble, oneDouble, halfDouble, decimal}
+use Rattle.fdct.specs.Double.{zeroDouble, oneDouble, halfDouble, nearestDouble}
 use Rattle.fdct.specs.Cosine.{cosine}
 
 -- the sum for index u over the first n places of a line: it starts at 0
@@ -13,8 +13,8 @@ weightedSum line u (suc x) = add binary64 (weightedSum line u x) (mul binary64 (
 
 -- c: the double nearest 1 / √2 for index 0, else 1
 unfoldable pub weight : ℕ → Float
-unfolding decimal
-weight u = cond (eqb u 0) (decimal 70710678118654752440) oneDouble
+unfolding nearestDouble
+weight u = cond (eqb u 0) (nearestDouble 70710678118654752440) oneDouble
 
 -- entry u of a line's transform: (0.5 × c) × sum
 unfoldable pub fdct1d : (ℕ → Float) → ℕ → Float

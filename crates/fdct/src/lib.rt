@@ -4,7 +4,7 @@ ghost use lib.ListN.{length};
 ghost use Rattle.basis.specs.Lists.{tabulate};
 ghost use Rattle.refusal.specs.Reply.{done};
 ghost use Rattle.fdct.specs.Block.{sample, coefficients};
-ghost use Rattle.fdct.specs.Pass.{entries, swappedAt};
+ghost use Rattle.fdct.specs.Told.{entries, swappedAt};
 ghost use Rattle.fdct.specs.Reply.{dctReply};
 ghost use Rattle.fdct.specs.Rounding.{coefficientOf};
 use refusal::Refusal;

@@ -6,7 +6,7 @@ ghost use lib.ListN.{length};
 ghost use Rattle.basis.specs.Lists.{tabulate, raster};
 ghost use Rattle.fdct.specs.Cosine.{cosines};
 ghost use Rattle.fdct.specs.Line.{weight, weightedSum};
-ghost use Rattle.fdct.specs.Pass.{entries, columnOf, swappedAt, passedAt};
+ghost use Rattle.fdct.specs.Told.{entries, columnOf, swappedAt, passedAt};
 
 // 1 / √2 for index 0, else 1.
 fn c(k: usize) -> f64

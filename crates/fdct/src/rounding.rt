@@ -7,13 +7,14 @@ ghost use lib.IntN.{pos};
 ghost use lib.Ieee as Ieee;
 ghost use lib.Ieee.{fin};
 ghost use Rattle.fdct.specs.Double.{zeroDouble};
-ghost use Rattle.fdct.specs.Rounding.{magnitude, clamped, coefficientOf};
+ghost use Rattle.fdct.specs.Rounding.{roundedSize, coefficientOf};
+ghost use Rattle.fdct.specs.Told.{cutSize};
 
 // To the nearest, a half upward. Doubling is exact, which adding a half is not.
 fn nearest_up(x: f64) -> u64
     requires { ⌜ T (Ieee.le zeroDouble x) ⌝ }
     requires { ⌜ T (Ieee.lt x (fin false 1 (pos 12))) ⌝ }
-    ensures { λ r. ⌜ (r ≡ magnitude x) × (r ≤ 4096) ⌝ }
+    ensures { λ r. ⌜ (r ≡ roundedSize x) × (r ≤ 4096) ⌝ }
 {
     let halves = std::num::truncating_f64_to_u64(x * 2.0);
     (halves + 1) / 2
@@ -27,8 +28,8 @@ fn size(x: f64) -> f64
 }
 
 // 4096 stands for all that is beyond the range; a NaN gives 0.
-fn magnitude_of(x: f64) -> u64
-    ensures { λ r. ⌜ r ≡ min (magnitude x) 4096 ⌝ }
+fn rounded_size(x: f64) -> u64
+    ensures { λ r. ⌜ r ≡ min (roundedSize x) 4096 ⌝ }
 {
     let a = size(x);
     if a < 4096.0 {
@@ -39,14 +40,14 @@ fn magnitude_of(x: f64) -> u64
 
 fn at_most(n: u64) -> i32
     requires { ⌜ n ≤ 4096 ⌝ }
-    ensures { λ r. ⌜ r ≡ clamped false n ⌝ }
+    ensures { λ r. ⌜ r ≡ cutSize false n ⌝ }
 {
     if n < 2047 { n as i32 } else { 2047 }
 }
 
 fn at_least(n: u64) -> i32
     requires { ⌜ n ≤ 4096 ⌝ }
-    ensures { λ r. ⌜ r ≡ clamped true n ⌝ }
+    ensures { λ r. ⌜ r ≡ cutSize true n ⌝ }
 {
     if n < 2048 { 0 - (n as i32) } else { -2048 }
 }
@@ -54,7 +55,7 @@ fn at_least(n: u64) -> i32
 // Both signs are worked out, so that no branch goes by the sign.
 fn with_sign(minus: bool, n: u64) -> i32
     requires { ⌜ n ≤ 4096 ⌝ }
-    ensures { λ r. ⌜ r ≡ clamped minus n ⌝ }
+    ensures { λ r. ⌜ r ≡ cutSize minus n ⌝ }
 {
     let low = at_least(n);
     let high = at_most(n);
@@ -64,5 +65,5 @@ fn with_sign(minus: bool, n: u64) -> i32
 pub fn coefficient_of(x: f64) -> i32
     ensures { λ r. ⌜ r ≡ coefficientOf x ⌝ }
 {
-    with_sign(x < 0.0, magnitude_of(x))
+    with_sign(x < 0.0, rounded_size(x))
 }

@@ -1,5 +1,5 @@
 pub mod Split
 pub mod Average
 pub mod Block
-pub mod Rows
-pub mod Start
+pub mod ToldRows
+pub mod ToldStart

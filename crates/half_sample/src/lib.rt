@@ -12,9 +12,10 @@ ghost use Rattle.plane.specs.Reference.{blockReply};
 ghost use Rattle.half_sample.specs.Split.{splitHalf};
 ghost use Rattle.half_sample.specs.Average.{average2Of, average4Of, pixelOf};
 ghost use Rattle.half_sample.specs.Block.{halfBlock};
-ghost use Rattle.half_sample.specs.Start.{StartsAt};
+ghost use Rattle.half_sample.specs.ToldStart.{StartsAt};
 use plane::Geometry;
 use plane::Point;
+use plane::Site;
 use record::MotionVector;
 use refusal::Reply;
 
@@ -36,25 +37,25 @@ pub fn split_half_pel(mv: i32) -> HalfPel
     }
 }
 
-fn average2(a: u8, b: u8, rc: u8) -> u8
+fn average2(a: u8, b: u8, rc: u16) -> u8
     requires { ⌜ rc < 2 ⌝ }
     ensures { λ r. ⌜ r ≡ average2Of a b rc ⌝ }
 {
-    ((a as u16 + b as u16 + 1 - rc as u16) / 2) as u8
+    ((a as u16 + b as u16 + 1 - rc) / 2) as u8
 }
 
-fn average4(a: u8, b: u8, c: u8, d: u8, rc: u8) -> u8
+fn average4(a: u8, b: u8, c: u8, d: u8, rc: u16) -> u8
     requires { ⌜ rc < 2 ⌝ }
     ensures { λ r. ⌜ r ≡ average4Of a b c d rc ⌝ }
 {
-    ((a as u16 + b as u16 + c as u16 + d as u16 + 2 - rc as u16) / 4) as u8
+    ((a as u16 + b as u16 + c as u16 + d as u16 + 2 - rc) / 4) as u8
 }
 
 // From a half a sample to the right, half a sample down: b stands to the right of a, c and d below.
 pub fn interpolate_pixel(a: u8, b: u8, c: u8, d: u8, half_x: bool, half_y: bool, rounding: u8) -> u8
     ensures { λ r. ⌜ r ≡ pixelOf a b c d «half_x» «half_y» (rounding % 2) ⌝ }
 {
-    let rc = rounding % 2;
+    let rc = (rounding % 2) as u16;
     if half_x {
         if half_y {
             return average4(a, b, c, d, rc);
@@ -67,19 +68,27 @@ pub fn interpolate_pixel(a: u8, b: u8, c: u8, d: u8, half_x: bool, half_y: bool,
     a
 }
 
+// Half a sample to the right, half a sample down, and the rounding control that averages are lowered by. Its size, four bytes, lets it
+// go from function to function in a register.
+struct Halves {
+    x: bool,
+    y: bool,
+    rc: u16,
+}
+
 // Where a block is read in one direction: its first sample, and whether half a sample on.
-struct Start {
+struct AxisStart {
     at: i32,
     half: bool,
 }
 
-fn start_of(origin: i32, mv: i32) -> Start
-    requires { ⌜ (inRange (negsuc 4095) (pos 4096) origin ≡ true) × (inRange (negsuc 2047) (pos 2047) mv ≡ true) ⌝ }
-    ensures { λ r. ⌜ StartsAt origin mv r ⌝ }
+fn start_of(corner: i32, mv: i32) -> AxisStart
+    requires { ⌜ (inRange (negsuc 4095) (pos 4096) corner ≡ true) × (inRange (negsuc 2047) (pos 2047) mv ≡ true) ⌝ }
+    ensures { λ r. ⌜ StartsAt corner mv r ⌝ }
 {
     let split = split_half_pel(mv);
-    Start {
-        at: origin + split.whole,
+    AxisStart {
+        at: corner + split.whole,
         half: split.half,
     }
 }
@@ -87,71 +96,46 @@ fn start_of(origin: i32, mv: i32) -> Start
 fn interpolate_ready(
     samples: &[u8],
     geometry: Geometry,
+    site: Site,
     vector: MotionVector,
-    origin: Point,
-    block_w: usize,
-    block_h: usize,
     rounding: u8,
     out: &mut [u8],
 )
-    requires { ⌜ blockReply geometry (length (now samples)) vector origin «block_w» «block_h» (length (now out)) ≡ Done ⌝ }
-    ensures { λ _. ⌜ now (out .exit) ≡ halfBlock (planeOf (now (samples .entry)) geometry) vector origin «block_w» «block_h» rounding ⌝ }
+    requires { ⌜ blockReply geometry (length (now samples)) vector site (length (now out)) ≡ Done ⌝ }
+    ensures { λ _. ⌜ now (out .exit) ≡ halfBlock (planeOf (now (samples .entry)) geometry) site vector rounding ⌝ }
 {
-    let across = start_of(origin.x, vector.x);
-    let along = start_of(origin.y, vector.y);
+    let corner = site.corner;
+    let across = start_of(corner.x, vector.x);
+    let along = start_of(corner.y, vector.y);
     let at = Point {
         x: across.at,
         y: along.at,
     };
-    rows::interpolate_from(
-        samples,
-        geometry,
-        at,
-        across.half,
-        along.half,
-        rounding % 2,
-        block_w,
-        block_h,
-        out,
-    );
+    let halves = Halves {
+        x: across.half,
+        y: along.half,
+        rc: (rounding % 2) as u16,
+    };
+    rows::interpolate_from(samples, geometry, at, site, halves, out);
 }
 
-// The prediction of a block of sides 8 or 16 at an origin, row by row: 4, 5, 8, 12, 14.
+// The prediction of a block of sides 8 or 16, row by row: 4, 5, 8, 12, 14.
 pub fn interpolate_block_into(
     samples: &[u8],
     geometry: Geometry,
+    site: Site,
     vector: MotionVector,
-    origin: Point,
-    block_w: usize,
-    block_h: usize,
     rounding: u8,
     out: &mut [u8],
 ) -> Reply
-    ensures { λ r. ⌜ r ≡ blockReply geometry (length (now (samples .entry))) vector origin «block_w» «block_h» (length (now (out .entry))) ⌝ }
-    ensures { λ r. ⌜ now (out .exit) ≡ done r (halfBlock (planeOf (now (samples .entry)) geometry) vector origin «block_w» «block_h» rounding) (now (out .entry)) ⌝ }
+    ensures { λ r. ⌜ r ≡ blockReply geometry (length (now (samples .entry))) vector site (length (now (out .entry))) ⌝ }
+    ensures { λ r. ⌜ now (out .exit) ≡ done r (halfBlock (planeOf (now (samples .entry)) geometry) site vector rounding) (now (out .entry)) ⌝ }
 {
-    let reply = plane::block_reply(
-        geometry,
-        samples.len(),
-        vector,
-        origin,
-        block_w,
-        block_h,
-        out.len(),
-    );
+    let reply = plane::block_reply(geometry, samples.len(), vector, site, out.len());
     match reply {
         Reply::Refused(why) => Reply::Refused(why),
         Reply::Done => {
-            interpolate_ready(
-                samples,
-                geometry,
-                vector,
-                origin,
-                block_w,
-                block_h,
-                rounding,
-                out,
-            );
+            interpolate_ready(samples, geometry, site, vector, rounding, out);
             Reply::Done
         }
     }

@@ -6,17 +6,18 @@ use Rattle.refusal.specs.Reply.{done}
 use Rattle.record.specs.Zero.{noRecord}
 use Rattle.macroblock.specs.Request.{Request, replyOf}
 use Rattle.macroblock.specs.Answer.{Answer, answerOf, recordOf}
-use Rattle.hencouch.specs.Whole.{Written, writtenOf}
+use Rattle.hencouch.specs.Whole.{RecordAreas, recordAreasOf}
 use Rattle.refusal.proofs.Replies.{done-again}
 
 -- a is the entry's answer, r its reply's number, and new what its record leaves of the areas that held old
-pub laid-out : (q : Request) (a : Answer) (r : ℕ) (new old : Written) → a ≡ answerOf q → r ≡ codeOf (a .coded .reply) → new ≡ done (a .coded .reply) (writtenOf (a .coded .«record»)) old
-    → (r ≡ codeOf (replyOf q)) × (a .areas ≡ answerOf q .areas) × (new ≡ done (replyOf q) (writtenOf (recordOf q)) old)
+pub record-laid-out : (q : Request) (a : Answer) (r : ℕ) (new old : RecordAreas)
+    → a ≡ answerOf q → r ≡ codeOf (a .coded .reply) → new ≡ done (a .coded .reply) (recordAreasOf (a .coded .«record»)) old
+    → (r ≡ codeOf (replyOf q)) × (a .areas ≡ answerOf q .areas) × (new ≡ done (replyOf q) (recordAreasOf (recordOf q)) old)
 unfolding answerOf
-laid-out q a r new old e p w = (
+record-laid-out q a r new old e p w = (
   p ∙ ap (λ (x : Answer). codeOf (x .coded .reply)) e,
   ap (λ (x : Answer). x .areas) e,
   w
-      ∙ ap (λ (x : Answer). done (x .coded .reply) (writtenOf (x .coded .«record»)) old) e
-      ∙ done-again (replyOf q) writtenOf (recordOf q) noRecord old,
+      ∙ ap (λ (x : Answer). done (x .coded .reply) (recordAreasOf (x .coded .«record»)) old) e
+      ∙ done-again (replyOf q) recordAreasOf (recordOf q) noRecord old,
 )

@@ -8,7 +8,7 @@ use Rattle.refusal.specs.declared.Refusal.the-variants.{Length}
 use Rattle.refusal.specs.declared.Reply.{Reply}
 use Rattle.refusal.specs.declared.Reply.the-variants.{Done}
 use Rattle.refusal.specs.Reply.{unless, andThen}
-use Rattle.refusal.proofs.Replies.{joined, then-done, held}
+use Rattle.refusal.proofs.Replies.{joined, then-done, unless-done}
 use Rattle.refusal.proofs.Tests.{and-left, and-right}
 
 -- it is made of these parts
@@ -19,5 +19,5 @@ areas-reply searched reply areas lengths good e f g = joined {a = searched} e re
 -- where it is Done, both areas are as long as their answers
 pub areas-done : (searched : Reply) (a m b n : ℕ) → andThen searched (unless (eqb a m && eqb b n) Length Done) ≡ Done → (a ≡ m) × (b ≡ n)
 areas-done searched a m b n e =
-    let good = held (eqb a m && eqb b n) Length Done (then-done searched _ e) in
+    let good = unless-done (eqb a m && eqb b n) Length Done (then-done searched _ e) in
     (eqb-true a m (and-left (eqb a m) (eqb b n) good), eqb-true b n (and-right (eqb a m) (eqb b n) good))

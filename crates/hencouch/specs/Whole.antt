@@ -1,11 +1,11 @@
--- What the entry that searches and codes writes beside the three event areas: the macroblock's record, each part in an area of its own.
+-- The areas of a macroblock's record, which the entries that search and code write beside the three event areas: each part in its own.
 use Prim.Native.Nat.{ℕ}
 use mathlib.Core.List.{List, [], _∷_}
 use lib.IntN.{ℤ}
 use Rattle.record.specs.declared.Record.{Record}
 use Rattle.hencouch.specs.Search.{vectorArea, vectorsArea}
 
-pub record Written : Type 0 where
+pub record RecordAreas : Type 0 where
   -- horizontal, vertical
   pub vector : List ℤ
   pub sum : ℕ
@@ -17,10 +17,14 @@ pub record Written : Type 0 where
   pub counts : List ℕ
 
 -- in the order of the entry's parameters
-abbrev pub written : List ℤ → ℕ → List ℤ → List ℕ → List ℕ → List ℕ → Written
-written vector sum fourVectors fourSums patterns counts =
+abbrev pub recordAreas : List ℤ → ℕ → List ℤ → List ℕ → List ℕ → List ℕ → RecordAreas
+recordAreas vector sum fourVectors fourSums patterns counts =
     record { vector = vector; sum = sum; fourVectors = fourVectors; fourSums = fourSums; patterns = patterns; counts = counts }
 
-abbrev pub writtenOf : Record → Written
-writtenOf r =
-    written (vectorArea (r .vector)) (r .sum) (vectorsArea (r .vectors)) (r .sums) (r .«luma_pattern» ∷ r .«chroma_pattern» ∷ []) (r .counts)
+-- luma, then chroma
+abbrev pub patternsArea : ℕ → ℕ → List ℕ
+patternsArea luma chroma = luma ∷ chroma ∷ []
+
+abbrev pub recordAreasOf : Record → RecordAreas
+recordAreasOf r =
+    recordAreas (vectorArea (r .vector)) (r .sum) (vectorsArea (r .vectors)) (r .sums) (patternsArea (r .«luma_pattern») (r .«chroma_pattern»)) (r .counts)

@@ -1,11 +1,13 @@
-// The areas that a macroblock's record is written into.
+// The areas that a macroblock's record is written into, and a block's count of events.
 ghost use mathlib.Core.Path.{_≡_};
+ghost use Rattle.refusal.specs.Number.{codeOf};
 ghost use Rattle.refusal.specs.Reply.{done};
 ghost use Rattle.hencouch.specs.Search.{vectorArea, vectorsArea};
-ghost use Rattle.hencouch.specs.Whole.{written, writtenOf};
+ghost use Rattle.hencouch.specs.Whole.{recordAreas, patternsArea, recordAreasOf};
 use record::MotionVector;
 use record::Record;
 use refusal::Reply;
+use scan::Events;
 
 // Horizontal, then vertical.
 fn vector_area(v: MotionVector) -> [i32; 2]
@@ -25,6 +27,28 @@ fn vectors_area(vs: [MotionVector; 4]) -> [i32; 8]
     [a.x, a.y, b.x, b.y, c.x, c.y, d.x, d.y]
 }
 
+// Luma, then chroma.
+pub fn patterns_area(luma: u8, chroma: u8) -> [u8; 2]
+    ensures { λ r. ⌜ r ≡ patternsArea luma chroma ⌝ }
+{
+    [luma, chroma]
+}
+
+// A block's count, where there is one, and the reply's number.
+pub fn write_count(told: Events, count: &mut u8) -> u8
+    ensures { λ r. ⌜ r ≡ codeOf (told .reply) ⌝ }
+    ensures { λ _. ⌜ now (count .exit) ≡ done (told .reply) (told .count) (now (count .entry)) ⌝ }
+{
+    let reply = told.reply;
+    match reply {
+        Reply::Refused(why) => refusal::number(why),
+        Reply::Done => {
+            *count = told.count;
+            0
+        }
+    }
+}
+
 // A record into its areas, where there is one.
 pub fn write_record(
     reply: Reply,
@@ -37,11 +61,11 @@ pub fn write_record(
     counts: &mut [u8; 6],
 )
     ensures { λ _. ⌜ (
-        let old = written (now (vector .entry)) (now (sum .entry)) (now («four_vectors» .entry)) (now («four_sums» .entry))
+        let old = recordAreas (now (vector .entry)) (now (sum .entry)) (now («four_vectors» .entry)) (now («four_sums» .entry))
         (now (patterns .entry)) (now (counts .entry)) in
-        let new = written (now (vector .exit)) (now (sum .exit)) (now («four_vectors» .exit)) (now («four_sums» .exit))
+        let new = recordAreas (now (vector .exit)) (now (sum .exit)) (now («four_vectors» .exit)) (now («four_sums» .exit))
         (now (patterns .exit)) (now (counts .exit)) in
-        new ≡ done reply (writtenOf given) old
+        new ≡ done reply (recordAreasOf given) old
         ) ⌝ }
 {
     match reply {
@@ -55,7 +79,7 @@ pub fn write_record(
             *sum = given.sum;
             *four_vectors = vectors_area(four);
             *four_sums = sums;
-            *patterns = [given.luma_pattern, given.chroma_pattern];
+            *patterns = patterns_area(given.luma_pattern, given.chroma_pattern);
             *counts = six;
         }
     }

@@ -1,8 +1,5 @@
 // The parts of an inter macroblock: activity, residual, levels and events, patterns.
-ghost use mathlib.Core.Bool.{not};
-ghost use mathlib.Core.List.{[], _∷_};
 ghost use mathlib.Core.Path.{_≡_};
-ghost use lib.Dec.{eqb};
 ghost use lib.ListN.{length};
 ghost use Rattle.refusal.specs.Number.{codeOf};
 ghost use Rattle.refusal.specs.Reply.{done};
@@ -11,13 +8,13 @@ ghost use Rattle.coding.specs.Residual.{samples, sourceOf, residualOf};
 ghost use Rattle.coding.specs.Coding.{quantisingOf, countOf, countsOf, blockAreas, areasOf, lumaPattern, chromaPattern};
 ghost use Rattle.coding.specs.Reply.{residualReply, codingReply};
 ghost use Rattle.macroblock.specs.Activities.{intraActivity};
-ghost use Rattle.hencouch.specs.Numbers.{sizeOf, placeOf};
+ghost use Rattle.hencouch.specs.Numbers.{sizeOf, macroblockAt, firstMethod};
+ghost use Rattle.hencouch.specs.Whole.{patternsArea};
 use coding::Counted;
 use macroblock::Activity;
 use plane::MacroblockPlace;
 use plane::SourceSize;
 use refusal::Reply;
-use scan::Events;
 
 // The sum, where there is one, and the reply's number.
 fn write_activity(told: Activity, activity: &mut u32) -> u8
@@ -29,21 +26,6 @@ fn write_activity(told: Activity, activity: &mut u32) -> u8
         Reply::Refused(why) => refusal::number(why),
         Reply::Done => {
             *activity = told.sum;
-            0
-        }
-    }
-}
-
-// A block's count, where there is one, and the reply's number.
-fn write_count(told: Events, count: &mut u8) -> u8
-    ensures { λ r. ⌜ r ≡ codeOf (told .reply) ⌝ }
-    ensures { λ _. ⌜ now (count .exit) ≡ done (told .reply) (told .count) (now (count .entry)) ⌝ }
-{
-    let reply = told.reply;
-    match reply {
-        Reply::Refused(why) => refusal::number(why),
-        Reply::Done => {
-            *count = told.count;
             0
         }
     }
@@ -76,7 +58,7 @@ pub extern "C" fn hencouch_intra_activity(
     activity: &mut u32,
 ) -> u8
     ensures { λ r. ⌜ (
-        let told = intraActivity (now (source .entry)) (sizeOf width height) (placeOf column row) in
+        let told = intraActivity (now (source .entry)) (sizeOf width height) (macroblockAt column row) in
         (r ≡ codeOf (told .reply)) × (now (activity .exit) ≡ done (told .reply) (told .sum) (now (activity .entry)))
         ) ⌝ }
 {
@@ -103,7 +85,7 @@ pub extern "C" fn hencouch_macroblock_residual(
 ) -> u8
     ensures { λ r. ⌜ (
         let size = sizeOf width height in
-        let place = placeOf column row in
+        let place = macroblockAt column row in
         let reply = residualReply size (length (now (y .entry))) (length (now (cb .entry))) (length (now (cr .entry))) place
         (length (now («pred_y» .entry))) (length (now («pred_cb» .entry))) (length (now («pred_cr» .entry))) (length (now (out .entry))) in
         let source = sourceOf (now (y .entry)) (now (cb .entry)) (now (cr .entry)) size place in
@@ -131,7 +113,7 @@ pub extern "C" fn hencouch_quantise_inter_block(
     count: &mut u8,
 ) -> u8
     ensures { λ r. ⌜ (
-        let by = quantisingOf quantiser (not (eqb «first_method» 0)) (now (weights .entry)) scan in
+        let by = quantisingOf quantiser (firstMethod «first_method») (now (weights .entry)) scan in
         let block = now (residual .entry) in
         let reply = codingReply 64 block by (length (now (lasts .entry))) (length (now (runs .entry))) (length (now (levels .entry))) in
         let old = areas (now (lasts .entry)) (now (runs .entry)) (now (levels .entry)) in
@@ -141,17 +123,18 @@ pub extern "C" fn hencouch_quantise_inter_block(
         × (now (count .exit) ≡ done reply (countOf by block) (now (count .entry)))
         ) ⌝ }
 {
+    let first = crate::numbers::first_method_of(first_method);
     let told = coding::quantise_inter_block(
         residual,
         quantiser,
-        first_method != 0,
+        first,
         weights,
         scan,
         lasts,
         runs,
         levels,
     );
-    write_count(told, count)
+    crate::areas::write_count(told, count)
 }
 
 // The events of all six blocks, each in its own area: 10, 11, 12, 13, 14.
@@ -168,7 +151,7 @@ pub extern "C" fn hencouch_quantise_inter_residual(
     counts: &mut [u8; 6],
 ) -> u8
     ensures { λ r. ⌜ (
-        let by = quantisingOf quantiser (not (eqb «first_method» 0)) (now (weights .entry)) scan in
+        let by = quantisingOf quantiser (firstMethod «first_method») (now (weights .entry)) scan in
         let all = now (residual .entry) in
         let reply = codingReply 384 all by (length (now (lasts .entry))) (length (now (runs .entry))) (length (now (levels .entry))) in
         let old = areas (now (lasts .entry)) (now (runs .entry)) (now (levels .entry)) in
@@ -178,10 +161,11 @@ pub extern "C" fn hencouch_quantise_inter_residual(
         × (now (counts .exit) ≡ done reply (countsOf by all) (now (counts .entry)))
         ) ⌝ }
 {
+    let first = crate::numbers::first_method_of(first_method);
     let told = coding::quantise_inter_residual(
         residual,
         quantiser,
-        first_method != 0,
+        first,
         weights,
         scan,
         lasts,
@@ -195,9 +179,9 @@ pub extern "C" fn hencouch_quantise_inter_residual(
 #[no_mangle]
 pub extern "C" fn hencouch_inter_cbp(counts: &[u8; 6], patterns: &mut [u8; 2]) -> u8
     ensures { λ r. ⌜ r ≡ 0 ⌝ }
-    ensures { λ _. ⌜ now (patterns .exit) ≡ lumaPattern (now (counts .entry)) ∷ chromaPattern (now (counts .entry)) ∷ [] ⌝ }
+    ensures { λ _. ⌜ now (patterns .exit) ≡ patternsArea (lumaPattern (now (counts .entry))) (chromaPattern (now (counts .entry))) ⌝ }
 {
     let told = coding::inter_cbp(*counts);
-    *patterns = [told.luma, told.chroma];
+    *patterns = crate::areas::patterns_area(told.luma, told.chroma);
     0
 }

@@ -3,6 +3,7 @@ mod areas;
 pub mod inter;
 pub mod levels;
 pub mod motion;
+mod numbers;
 pub mod run;
 pub mod sample;
 pub mod transform;

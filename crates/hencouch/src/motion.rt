@@ -5,8 +5,9 @@ ghost use Prim.Native.Nat.{_+_, _<_};
 ghost use lib.ListN.{length, set};
 ghost use Rattle.refusal.specs.Number.{codeOf};
 ghost use Rattle.refusal.specs.Reply.{done};
+ghost use Rattle.search.specs.Request.{searchRequest};
 ghost use Rattle.search.specs.Estimate.{estimateMotion, estimateFour};
-ghost use Rattle.hencouch.specs.Numbers.{geometryOf, vectorOf, sizeOf, placeOf};
+ghost use Rattle.hencouch.specs.Numbers.{geometryOf, vectorOf, sizeOf, macroblockAt};
 ghost use Rattle.hencouch.specs.Search.{oneAreasReply, fourAreasReply, vectorArea, vectorsArea};
 use plane::Geometry;
 use plane::MacroblockPlace;
@@ -30,9 +31,12 @@ fn write_vector(v: MotionVector, at: usize, out: &mut [i32])
 
 // What the search answered, into two areas; 12 where they are not 2 and 1 long.
 fn write_one(found: Estimated, vector: &mut [i32], sum: &mut [u32]) -> u8
-    ensures { λ r. ⌜ r ≡ codeOf (oneAreasReply (found .reply) (length (now (vector .entry))) (length (now (sum .entry)))) ⌝ }
-    ensures { λ _. ⌜ now (vector .exit) ≡ done (oneAreasReply (found .reply) (length (now (vector .entry))) (length (now (sum .entry)))) (vectorArea (found .vector)) (now (vector .entry)) ⌝ }
-    ensures { λ _. ⌜ now (sum .exit) ≡ done (oneAreasReply (found .reply) (length (now (vector .entry))) (length (now (sum .entry)))) (found .sum ∷ []) (now (sum .entry)) ⌝ }
+    ensures { λ r. ⌜ (
+        let reply = oneAreasReply (found .reply) (length (now (vector .entry))) (length (now (sum .entry))) in
+        (r ≡ codeOf reply)
+        × (now (vector .exit) ≡ done reply (vectorArea (found .vector)) (now (vector .entry)))
+        × (now (sum .exit) ≡ done reply (found .sum ∷ []) (now (sum .entry)))
+        ) ⌝ }
 {
     let searched = found.reply;
     let v = found.vector;
@@ -68,9 +72,12 @@ fn fill_four(vs: [MotionVector; 4], costs: [u32; 4], vectors: &mut [i32], sums: 
 
 // What the search answered for four, into two areas; 12 where they are not 8 and 4 long.
 fn write_four(found: EstimatedFour, vectors: &mut [i32], sums: &mut [u32]) -> u8
-    ensures { λ r. ⌜ r ≡ codeOf (fourAreasReply (found .reply) (length (now (vectors .entry))) (length (now (sums .entry)))) ⌝ }
-    ensures { λ _. ⌜ now (vectors .exit) ≡ done (fourAreasReply (found .reply) (length (now (vectors .entry))) (length (now (sums .entry)))) (vectorsArea (found .vectors)) (now (vectors .entry)) ⌝ }
-    ensures { λ _. ⌜ now (sums .exit) ≡ done (fourAreasReply (found .reply) (length (now (vectors .entry))) (length (now (sums .entry)))) (found .sums) (now (sums .entry)) ⌝ }
+    ensures { λ r. ⌜ (
+        let reply = fourAreasReply (found .reply) (length (now (vectors .entry))) (length (now (sums .entry))) in
+        (r ≡ codeOf reply)
+        × (now (vectors .exit) ≡ done reply (vectorsArea (found .vectors)) (now (vectors .entry)))
+        × (now (sums .exit) ≡ done reply (found .sums) (now (sums .entry)))
+        ) ⌝ }
 {
     let searched = found.reply;
     let vs = found.vectors;
@@ -105,9 +112,15 @@ pub extern "C" fn hencouch_estimate_motion(
     vector: &mut [i32],
     sum: &mut [u32],
 ) -> u8
-    ensures { λ r. ⌜ r ≡ codeOf (oneAreasReply (estimateMotion (now (source .entry)) (sizeOf width height) (placeOf column row) (now (reference .entry)) (geometryOf «ref_width» «ref_height» stride) mode bpp fcode .reply) (length (now (vector .entry))) (length (now (sum .entry)))) ⌝ }
-    ensures { λ _. ⌜ now (vector .exit) ≡ done (oneAreasReply (estimateMotion (now (source .entry)) (sizeOf width height) (placeOf column row) (now (reference .entry)) (geometryOf «ref_width» «ref_height» stride) mode bpp fcode .reply) (length (now (vector .entry))) (length (now (sum .entry)))) (vectorArea (estimateMotion (now (source .entry)) (sizeOf width height) (placeOf column row) (now (reference .entry)) (geometryOf «ref_width» «ref_height» stride) mode bpp fcode .vector)) (now (vector .entry)) ⌝ }
-    ensures { λ _. ⌜ now (sum .exit) ≡ done (oneAreasReply (estimateMotion (now (source .entry)) (sizeOf width height) (placeOf column row) (now (reference .entry)) (geometryOf «ref_width» «ref_height» stride) mode bpp fcode .reply) (length (now (vector .entry))) (length (now (sum .entry)))) (estimateMotion (now (source .entry)) (sizeOf width height) (placeOf column row) (now (reference .entry)) (geometryOf «ref_width» «ref_height» stride) mode bpp fcode .sum ∷ []) (now (sum .entry)) ⌝ }
+    ensures { λ r. ⌜ (
+        let q = searchRequest (now (source .entry)) (sizeOf width height) (macroblockAt column row)
+        (now (reference .entry)) (geometryOf «ref_width» «ref_height» stride) mode bpp fcode in
+        let found = estimateMotion q in
+        let reply = oneAreasReply (found .reply) (length (now (vector .entry))) (length (now (sum .entry))) in
+        (r ≡ codeOf reply)
+        × (now (vector .exit) ≡ done reply (vectorArea (found .vector)) (now (vector .entry)))
+        × (now (sum .exit) ≡ done reply (found .sum ∷ []) (now (sum .entry)))
+        ) ⌝ }
 {
     let size = SourceSize { width, height };
     let place = MacroblockPlace { column, row };
@@ -140,9 +153,15 @@ pub extern "C" fn hencouch_estimate_motion_4mv(
     vectors: &mut [i32],
     sums: &mut [u32],
 ) -> u8
-    ensures { λ r. ⌜ r ≡ codeOf (fourAreasReply (estimateFour (now (source .entry)) (sizeOf width height) (placeOf column row) (now (reference .entry)) (geometryOf «ref_width» «ref_height» stride) mode bpp fcode (vectorOf «seed_x» «seed_y») .reply) (length (now (vectors .entry))) (length (now (sums .entry)))) ⌝ }
-    ensures { λ _. ⌜ now (vectors .exit) ≡ done (fourAreasReply (estimateFour (now (source .entry)) (sizeOf width height) (placeOf column row) (now (reference .entry)) (geometryOf «ref_width» «ref_height» stride) mode bpp fcode (vectorOf «seed_x» «seed_y») .reply) (length (now (vectors .entry))) (length (now (sums .entry)))) (vectorsArea (estimateFour (now (source .entry)) (sizeOf width height) (placeOf column row) (now (reference .entry)) (geometryOf «ref_width» «ref_height» stride) mode bpp fcode (vectorOf «seed_x» «seed_y») .vectors)) (now (vectors .entry)) ⌝ }
-    ensures { λ _. ⌜ now (sums .exit) ≡ done (fourAreasReply (estimateFour (now (source .entry)) (sizeOf width height) (placeOf column row) (now (reference .entry)) (geometryOf «ref_width» «ref_height» stride) mode bpp fcode (vectorOf «seed_x» «seed_y») .reply) (length (now (vectors .entry))) (length (now (sums .entry)))) (estimateFour (now (source .entry)) (sizeOf width height) (placeOf column row) (now (reference .entry)) (geometryOf «ref_width» «ref_height» stride) mode bpp fcode (vectorOf «seed_x» «seed_y») .sums) (now (sums .entry)) ⌝ }
+    ensures { λ r. ⌜ (
+        let q = searchRequest (now (source .entry)) (sizeOf width height) (macroblockAt column row)
+        (now (reference .entry)) (geometryOf «ref_width» «ref_height» stride) mode bpp fcode in
+        let found = estimateFour q (vectorOf «seed_x» «seed_y») in
+        let reply = fourAreasReply (found .reply) (length (now (vectors .entry))) (length (now (sums .entry))) in
+        (r ≡ codeOf reply)
+        × (now (vectors .exit) ≡ done reply (vectorsArea (found .vectors)) (now (vectors .entry)))
+        × (now (sums .exit) ≡ done reply (found .sums) (now (sums .entry)))
+        ) ⌝ }
 {
     let size = SourceSize { width, height };
     let place = MacroblockPlace { column, row };
@@ -151,10 +170,7 @@ pub extern "C" fn hencouch_estimate_motion_4mv(
         height: ref_height,
         stride,
     };
-    let seed = MotionVector {
-        x: seed_x,
-        y: seed_y,
-    };
+    let seed = crate::numbers::vector_of(seed_x, seed_y);
     let found = search::estimate_motion_4mv(
         source,
         size,

@@ -1,17 +1,14 @@
 // The picture run: a picture's macroblocks one after the other. A run is five numbers: width, height, macroblocks given, their events,
 // their one-vector sums.
-ghost use mathlib.Core.Bool.{not};
 ghost use mathlib.Core.Path.{_≡_};
-ghost use lib.Dec.{eqb};
 ghost use Rattle.refusal.specs.Number.{codeOf};
 ghost use Rattle.refusal.specs.Reply.{done};
 ghost use Rattle.reader.specs.Handed.{areas};
 ghost use Rattle.macroblock.specs.Request.{request};
 ghost use Rattle.picture.specs.Run.{openOf, nextPlace, stepOf, closeOf};
-ghost use Rattle.hencouch.specs.Numbers.{geometryOf, sizeOf, settingsOf};
+ghost use Rattle.hencouch.specs.Numbers.{geometryOf, sizeOf, macroblockSettings};
 ghost use Rattle.hencouch.specs.Run.{runOf, runNumbers, totalsNumbers};
-ghost use Rattle.hencouch.specs.Whole.{written, writtenOf};
-use macroblock::Settings;
+ghost use Rattle.hencouch.specs.Whole.{recordAreas, recordAreasOf};
 use picture::Closed;
 use picture::Run;
 use plane::Geometry;
@@ -132,7 +129,7 @@ pub extern "C" fn hencouch_step(
     counts: &mut [u8; 6],
 ) -> u8
     ensures { λ r. ⌜ (
-        let settings = settingsOf fcode mode bpp quantiser (not (eqb «first_method» 0)) vectors scan in
+        let settings = macroblockSettings fcode mode bpp quantiser «first_method» vectors scan in
         let geometry = geometryOf «ref_width» «ref_height» stride in
         let before = runOf (now (run .entry)) in
         let q = request settings (now (reference .entry)) geometry
@@ -141,25 +138,25 @@ pub extern "C" fn hencouch_step(
         (now (lasts .entry)) (now (runs .entry)) (now (levels .entry)) in
         let told = stepOf before q in
         let coded = told .answer .coded in
-        let old = written (now (vector .entry)) (now (sum .entry)) (now («four_vectors» .entry)) (now («four_sums» .entry))
+        let old = recordAreas (now (vector .entry)) (now (sum .entry)) (now («four_vectors» .entry)) (now («four_sums» .entry))
         (now (patterns .entry)) (now (counts .entry)) in
-        let new = written (now (vector .exit)) (now (sum .exit)) (now («four_vectors» .exit)) (now («four_sums» .exit))
+        let new = recordAreas (now (vector .exit)) (now (sum .exit)) (now («four_vectors» .exit)) (now («four_sums» .exit))
         (now (patterns .exit)) (now (counts .exit)) in
         (r ≡ codeOf (coded .reply))
         × (now (run .exit) ≡ done (coded .reply) (runNumbers (told .run)) (now (run .entry)))
         × (areas (now (lasts .exit)) (now (runs .exit)) (now (levels .exit)) ≡ told .answer .areas)
-        × (new ≡ done (coded .reply) (writtenOf (coded .«record»)) old)
+        × (new ≡ done (coded .reply) (recordAreasOf (coded .«record»)) old)
         ) ⌝ }
 {
-    let settings = Settings {
+    let settings = crate::numbers::settings_of(
         fcode,
         mode,
         bpp,
         quantiser,
-        first_method: first_method != 0,
+        first_method,
         vectors,
         scan,
-    };
+    );
     let geometry = Geometry {
         width: ref_width,
         height: ref_height,

@@ -7,10 +7,8 @@ ghost use Rattle.plane.specs.Plane.{planeOf};
 ghost use Rattle.plane.specs.Reference.{blockReply};
 ghost use Rattle.half_sample.specs.Block.{halfBlock};
 ghost use Rattle.quarter_sample.specs.Block.{quarterBlock, quarterReply};
-ghost use Rattle.hencouch.specs.Numbers.{geometryOf, vectorOf, pointOf};
+ghost use Rattle.hencouch.specs.Numbers.{geometryOf, vectorOf, siteOf};
 use plane::Geometry;
-use plane::Point;
-use record::MotionVector;
 
 // Half samples: 4, 5, 8, 12, 14.
 #[no_mangle]
@@ -28,29 +26,23 @@ pub extern "C" fn hencouch_interpolate_block_into(
     rounding: u8,
     out: &mut [u8],
 ) -> u8
-    ensures { λ r. ⌜ r ≡ codeOf (blockReply (geometryOf width height stride) (length (now (samples .entry))) (vectorOf «mv_x» «mv_y») (pointOf «origin_x» «origin_y») «block_w» «block_h» (length (now (out .entry)))) ⌝ }
-    ensures { λ _. ⌜ now (out .exit) ≡ done (blockReply (geometryOf width height stride) (length (now (samples .entry))) (vectorOf «mv_x» «mv_y») (pointOf «origin_x» «origin_y») «block_w» «block_h» (length (now (out .entry)))) (halfBlock (planeOf (now (samples .entry)) (geometryOf width height stride)) (vectorOf «mv_x» «mv_y») (pointOf «origin_x» «origin_y») «block_w» «block_h» rounding) (now (out .entry)) ⌝ }
+    ensures { λ r. ⌜ (
+        let geometry = geometryOf width height stride in
+        let vector = vectorOf «mv_x» «mv_y» in
+        let site = siteOf «origin_x» «origin_y» «block_w» «block_h» in
+        let reply = blockReply geometry (length (now (samples .entry))) vector site (length (now (out .entry))) in
+        let block = halfBlock (planeOf (now (samples .entry)) geometry) site vector rounding in
+        (r ≡ codeOf reply) × (now (out .exit) ≡ done reply block (now (out .entry)))
+        ) ⌝ }
 {
     let geometry = Geometry {
         width,
         height,
         stride,
     };
-    let vector = MotionVector { x: mv_x, y: mv_y };
-    let origin = Point {
-        x: origin_x,
-        y: origin_y,
-    };
-    let reply = half_sample::interpolate_block_into(
-        samples,
-        geometry,
-        vector,
-        origin,
-        block_w,
-        block_h,
-        rounding,
-        out,
-    );
+    let vector = crate::numbers::vector_of(mv_x, mv_y);
+    let site = crate::numbers::site_of(origin_x, origin_y, block_w, block_h);
+    let reply = half_sample::interpolate_block_into(samples, geometry, site, vector, rounding, out);
     refusal::code(reply)
 }
 
@@ -71,26 +63,27 @@ pub extern "C" fn hencouch_interpolate_block_qpel_into(
     bits_per_pixel: u32,
     out: &mut [u8],
 ) -> u8
-    ensures { λ r. ⌜ r ≡ codeOf (quarterReply «bits_per_pixel» (geometryOf width height stride) (length (now (samples .entry))) (vectorOf «mv_x» «mv_y») (pointOf «origin_x» «origin_y») «block_w» «block_h» (length (now (out .entry)))) ⌝ }
-    ensures { λ _. ⌜ now (out .exit) ≡ done (quarterReply «bits_per_pixel» (geometryOf width height stride) (length (now (samples .entry))) (vectorOf «mv_x» «mv_y») (pointOf «origin_x» «origin_y») «block_w» «block_h» (length (now (out .entry)))) (quarterBlock (planeOf (now (samples .entry)) (geometryOf width height stride)) (vectorOf «mv_x» «mv_y») (pointOf «origin_x» «origin_y») «block_w» «block_h» rounding «bits_per_pixel») (now (out .entry)) ⌝ }
+    ensures { λ r. ⌜ (
+        let geometry = geometryOf width height stride in
+        let vector = vectorOf «mv_x» «mv_y» in
+        let site = siteOf «origin_x» «origin_y» «block_w» «block_h» in
+        let reply = quarterReply «bits_per_pixel» geometry (length (now (samples .entry))) vector site (length (now (out .entry))) in
+        let block = quarterBlock (planeOf (now (samples .entry)) geometry) site vector rounding «bits_per_pixel» in
+        (r ≡ codeOf reply) × (now (out .exit) ≡ done reply block (now (out .entry)))
+        ) ⌝ }
 {
     let geometry = Geometry {
         width,
         height,
         stride,
     };
-    let vector = MotionVector { x: mv_x, y: mv_y };
-    let origin = Point {
-        x: origin_x,
-        y: origin_y,
-    };
+    let vector = crate::numbers::vector_of(mv_x, mv_y);
+    let site = crate::numbers::site_of(origin_x, origin_y, block_w, block_h);
     let reply = quarter_sample::interpolate_block_qpel_into(
         samples,
         geometry,
+        site,
         vector,
-        origin,
-        block_w,
-        block_h,
         rounding,
         bits_per_pixel,
         out,

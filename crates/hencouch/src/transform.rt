@@ -9,8 +9,10 @@ ghost use Rattle.fdct.specs.Reply.{dctReply};
 // 12, 13.
 #[no_mangle]
 pub extern "C" fn hencouch_forward_dct_8x8(residual: &[i32], out: &mut [i32]) -> u8
-    ensures { λ r. ⌜ r ≡ codeOf (dctReply (now (residual .entry)) (length (now (out .entry)))) ⌝ }
-    ensures { λ _. ⌜ now (out .exit) ≡ done (dctReply (now (residual .entry)) (length (now (out .entry)))) (coefficients (now (residual .entry))) (now (out .entry)) ⌝ }
+    ensures { λ r. ⌜ (
+        let reply = dctReply (now (residual .entry)) (length (now (out .entry))) in
+        (r ≡ codeOf reply) × (now (out .exit) ≡ done reply (coefficients (now (residual .entry))) (now (out .entry)))
+        ) ⌝ }
 {
     let reply = fdct::forward_dct_8x8(residual, out);
     refusal::code(reply)

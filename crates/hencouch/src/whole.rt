@@ -1,15 +1,12 @@
 // The entry that searches for a macroblock and codes it.
-ghost use mathlib.Core.Bool.{not};
 ghost use mathlib.Core.Path.{_≡_};
-ghost use lib.Dec.{eqb};
 ghost use Rattle.refusal.specs.Number.{codeOf};
 ghost use Rattle.refusal.specs.Reply.{done};
 ghost use Rattle.reader.specs.Handed.{areas};
 ghost use Rattle.macroblock.specs.Request.{request, replyOf};
 ghost use Rattle.macroblock.specs.Answer.{answerOf, recordOf};
-ghost use Rattle.hencouch.specs.Numbers.{geometryOf, sizeOf, placeOf, settingsOf};
-ghost use Rattle.hencouch.specs.Whole.{written, writtenOf};
-use macroblock::Settings;
+ghost use Rattle.hencouch.specs.Numbers.{geometryOf, sizeOf, macroblockAt, macroblockSettings};
+ghost use Rattle.hencouch.specs.Whole.{recordAreas, recordAreasOf};
 use plane::Geometry;
 use plane::MacroblockPlace;
 use plane::SourceSize;
@@ -51,30 +48,30 @@ pub extern "C" fn hencouch_code_macroblock(
     counts: &mut [u8; 6],
 ) -> u8
     ensures { λ r. ⌜ (
-        let settings = settingsOf fcode mode bpp quantiser (not (eqb «first_method» 0)) vectors scan in
+        let settings = macroblockSettings fcode mode bpp quantiser «first_method» vectors scan in
         let geometry = geometryOf «ref_width» «ref_height» stride in
         let q = request settings (now (reference .entry)) geometry
-        (now (y .entry)) (now (cb .entry)) (now (cr .entry)) (sizeOf width height) (placeOf column row)
+        (now (y .entry)) (now (cb .entry)) (now (cr .entry)) (sizeOf width height) (macroblockAt column row)
         (now (weights .entry)) (now («pred_y» .entry)) (now («pred_cb» .entry)) (now («pred_cr» .entry))
         (now (lasts .entry)) (now (runs .entry)) (now (levels .entry)) in
-        let old = written (now (vector .entry)) (now (sum .entry)) (now («four_vectors» .entry)) (now («four_sums» .entry))
+        let old = recordAreas (now (vector .entry)) (now (sum .entry)) (now («four_vectors» .entry)) (now («four_sums» .entry))
         (now (patterns .entry)) (now (counts .entry)) in
-        let new = written (now (vector .exit)) (now (sum .exit)) (now («four_vectors» .exit)) (now («four_sums» .exit))
+        let new = recordAreas (now (vector .exit)) (now (sum .exit)) (now («four_vectors» .exit)) (now («four_sums» .exit))
         (now (patterns .exit)) (now (counts .exit)) in
         (r ≡ codeOf (replyOf q))
         × (areas (now (lasts .exit)) (now (runs .exit)) (now (levels .exit)) ≡ answerOf q .areas)
-        × (new ≡ done (replyOf q) (writtenOf (recordOf q)) old)
+        × (new ≡ done (replyOf q) (recordAreasOf (recordOf q)) old)
         ) ⌝ }
 {
-    let settings = Settings {
+    let settings = crate::numbers::settings_of(
         fcode,
         mode,
         bpp,
         quantiser,
-        first_method: first_method != 0,
+        first_method,
         vectors,
         scan,
-    };
+    );
     let geometry = Geometry {
         width: ref_width,
         height: ref_height,

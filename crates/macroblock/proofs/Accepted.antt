@@ -7,15 +7,15 @@ use lib.ListN.{length}
 use borrow.Author.Tests.{eqb-true}
 use Rattle.refusal.specs.declared.Refusal.the-variants.{Length, Choice}
 use Rattle.refusal.specs.declared.Reply.the-variants.{Done}
-use Rattle.refusal.specs.Reply.{unless, andThen}
+use Rattle.refusal.specs.Reply.{andThen}
 use Rattle.refusal.specs.Test.{between}
-use Rattle.refusal.proofs.Replies.{first-done, then-done, held}
+use Rattle.refusal.proofs.Replies.{first-done, then-done, unless-done}
 use Rattle.refusal.proofs.Tests.{and-left, and-right}
 use Rattle.plane.specs.Reference.{referenceReply}
 use Rattle.plane.specs.Source.{sourceReply}
 use Rattle.plane.proofs.ReadySource.{luma-alone}
 use Rattle.quantise.specs.Block.{weightReply}
-use Rattle.search.specs.Estimate.{settingsReply, searchReply}
+use Rattle.search.specs.Request.{SearchRequest, searchRequest, settingsReply, searchReply}
 use Rattle.search.proofs.Answered.{search-taken}
 use Rattle.coding.specs.Told.{Whole, Quantisable}
 use Rattle.macroblock.specs.Request.{Request, quantisingIn, lengthsReply, choiceReply, requestReply, lengthsOf, replyOf}
@@ -38,7 +38,7 @@ lent q e =
     let a = eqb (length (q .areas .lasts)) 384 in
     let b = eqb (length (q .areas .runs)) 384 in
     let c = eqb (length (q .areas .levels)) 384 in
-    let all = held ((y && (cb && cr)) && (w && (a && (b && c)))) Length Done e in
+    let all = unless-done ((y && (cb && cr)) && (w && (a && (b && c)))) Length Done e in
     let prediction = and-left (y && (cb && cr)) (w && (a && (b && c))) all in
     let rest = and-right (y && (cb && cr)) (w && (a && (b && c))) all in
     let areas = and-right w (a && (b && c)) rest in
@@ -58,11 +58,17 @@ lent q e =
 scan-known : (vectors scan : ℕ) → choiceReply vectors scan ≡ Done → between 0 2 scan ≡ true
 unfolding choiceReply
 scan-known vectors scan e =
-    and-right (eqb vectors 1 || eqb vectors 4) (between 0 2 scan) (held ((eqb vectors 1 || eqb vectors 4) && between 0 2 scan) Choice Done e)
+    and-right (eqb vectors 1 || eqb vectors 4) (between 0 2 scan) (unless-done ((eqb vectors 1 || eqb vectors 4) && between 0 2 scan) Choice Done e)
+
+-- the search's own request
+abbrev pub searchedFor : Request → SearchRequest
+searchedFor q =
+    let s = q .settings in
+    searchRequest (q .y) (q .size) (q .place) (q .reference) (q .geometry) (s .mode) (s .bpp) (s .fcode)
 
 -- what each part of the work asks
 pub record Accepted (q : Request) : Type 0 where
-  pub searched : searchReply (length (q .y)) (q .size) (q .place) (length (q .reference)) (q .geometry) (q .settings .mode) (q .settings .bpp) (q .settings .fcode) ≡ Done
+  pub searched : searchReply (searchedFor q) ≡ Done
   pub source : sourceReply (q .size) (length (q .y)) (length (q .cb)) (length (q .cr)) (q .place) ≡ Done
   pub quantisable : Quantisable (quantisingIn q)
   pub lent-is : Lent q
@@ -83,7 +89,7 @@ accepted q e =
     let source = first-done o (andThen w (andThen l c)) past-reference in
     let lengths = lent q (first-done l c past-weight) in
     record {
-      searched = search-taken (q .y) (q .size) (q .place) (q .reference) (q .geometry) _ _ _
+      searched = search-taken (searchedFor q)
           (first-done s (andThen r (andThen o (andThen w (andThen l c)))) e)
           (first-done r (andThen o (andThen w (andThen l c))) past-settings)
           (luma-alone _ _ _ _ _ source);

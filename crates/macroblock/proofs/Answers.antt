@@ -1,8 +1,5 @@
 -- The entry's answer in its two cases. Assumes nothing.
-use mathlib.Core.List.{List}
 use mathlib.Core.Path.{_≡_, sym, ap, ap₂, _∙_}
-use Prim.Native.Nat.{ℕ}
-use lib.IntN.{ℤ}
 use Rattle.refusal.specs.declared.Refusal.{Refusal}
 use Rattle.refusal.specs.declared.Reply.{Reply}
 use Rattle.refusal.specs.declared.Reply.the-variants.{Done, Refused}
@@ -18,11 +15,14 @@ abbrev pub given : Reply → Record → Areas → Answer
 given r g a = record { coded = record { reply = r; «record» = g }; areas = a }
 
 -- the answer, by its reply
-by-reply : (q : Request) (r : Reply) → replyOf q ≡ r → given r (done r (recordOf q) noRecord) (done r (areasOf (quantisingIn q) (residual q)) (q .areas)) ≡ answerOf q
+by-reply : (q : Request) (r : Reply) → replyOf q ≡ r
+    → given r (done r (recordOf q) noRecord) (done r (areasOf (quantisingIn q) (residual q)) (q .areas)) ≡ answerOf q
 unfolding answerOf
-by-reply q r e = ap (λ (x : Reply). given x (done x (recordOf q) noRecord) (done x (areasOf (quantisingIn q) (residual q)) (q .areas))) (sym e)
+by-reply q r e =
+    ap (λ (x : Reply). given x (done x (recordOf q) noRecord) (done x (areasOf (quantisingIn q) (residual q)) (q .areas))) (sym e)
 
-pub refused-answer : (q : Request) (why : Refusal) (g : Record) → replyOf q ≡ Refused why → g ≡ noRecord → given (Refused why) g (q .areas) ≡ answerOf q
+pub refused-answer : (q : Request) (why : Refusal) (g : Record) → replyOf q ≡ Refused why → g ≡ noRecord
+    → given (Refused why) g (q .areas) ≡ answerOf q
 refused-answer q why g e p = ap (λ (x : Record). given (Refused why) x (q .areas)) p ∙ by-reply q (Refused why) e
 
 pub done-answer : (q : Request) (g : Record) (a : Areas) → replyOf q ≡ Done → g ≡ recordOf q → a ≡ areasOf (quantisingIn q) (residual q)

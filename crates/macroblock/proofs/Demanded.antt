@@ -12,12 +12,16 @@ use Rattle.basis.proofs.Case.{then}
 use Rattle.basis.proofs.Lists.{getD-tabulate}
 use Rattle.refusal.specs.declared.Reply.the-variants.{Done}
 use Rattle.record.specs.declared.MotionVector.{MotionVector}
+use Rattle.record.specs.declared.Record.{Record}
 use Rattle.record.specs.Zero.{zeroVector}
 use Rattle.plane.specs.Source.{eightOf}
-use Rattle.quantise.specs.Level.{inverseOf}
-use Rattle.quantise.specs.Near.{Near, reach}
-use Rattle.search.specs.Sums.{vectorSum, eight}
+use Rattle.quantise.specs.Level.{inverseByQuantiser}
+use Rattle.quantise.specs.Near.{Near, tolerance}
+use Rattle.full_search.specs.Block.{eight}
+use Rattle.search.specs.declared.EstimatedFour.{EstimatedFour}
+use Rattle.search.specs.declared.SearchSettings.{SearchSettings}
 use Rattle.search.specs.Demand.{OneVector, BlockVector, OneFound, BlockFound}
+use Rattle.search.specs.Estimate.{oneVector}
 use Rattle.search.proofs.Demanded.{one-vector, four-vectors}
 use Rattle.reader.specs.Luma.{eightBy, fourLuma}
 use Rattle.reader.specs.Levels.{readLevels, readInverse}
@@ -25,95 +29,122 @@ use Rattle.coding.specs.Coding.{levelsOf, areasOf}
 use Rattle.coding.specs.Told.{Quantisable}
 use Rattle.coding.proofs.Levels.{levels-back}
 use Rattle.coding.proofs.Nearness.{all-near}
-use Rattle.macroblock.specs.Request.{Request, source, residual, modeIn, blockIn, quantisingIn, replyOf}
-use Rattle.macroblock.specs.Answer.{Answer, oneOf, fourOf, searchedOf, recordOf, answerOf}
-use Rattle.macroblock.specs.Demand.{Demand, handed, sumOver, oneSum, blockSum, coefficientAt, levelAt, inverseAt}
+use Rattle.macroblock.specs.Request.{Request, source, residual, searchIn, soughtIn, quantisingIn, replyOf}
+use Rattle.macroblock.specs.Answer.{Answer, fourOf, searchedOf, recordAt, answerOf}
+use Rattle.macroblock.specs.Demand.{Demand, handed, sumOver, oneSum, blockSum, coefficientAt, readLevelAt, readInverseAt}
 use Rattle.macroblock.proofs.Answers.{given, done-answer}
 use Rattle.macroblock.proofs.Accepted.{accepted}
 use Rattle.macroblock.proofs.Sums.{one-sums, block-sums}
 
--- the answer of a call that is not refused
-abbrev made : Request → Answer
-made q = given Done (recordOf q) (areasOf (quantisingIn q) (residual q))
+-- the answer of a call that is not refused, at a rounding type
+abbrev made : ℕ → Request → Answer
+made rounding q = given Done (recordAt rounding q) (areasOf (quantisingIn q) (residual q))
+
+module _ (rounding : ℕ) (q : Request) where
+  abbrev settings : SearchSettings
+  settings = searchIn rounding (q .settings)
+
+  abbrev coded : Record
+  coded = recordAt rounding q
+
+  abbrev answer : Answer
+  answer = made rounding q
 
 -- ---- one vector
 
-module _ (q : Request) where
-  one-is : OneVector (modeIn q) (q .settings .fcode) (blockIn q) (recordOf q .vector) (recordOf q .sum)
-  unfolding recordOf searchedOf
-  one-is = one-vector (modeIn q) (q .settings .fcode) (blockIn q)
+module _ (rounding : ℕ) (q : Request) where
+  one-is : OneVector (settings rounding q) (soughtIn q) (coded rounding q .vector) (coded rounding q .sum)
+  unfolding recordAt searchedOf
+  one-is = one-vector (settings rounding q) (soughtIn q)
 
-  one-reads : recordOf q .sum ≡ oneSum 0 q (made q) (recordOf q .vector)
-  one-reads = one-is .sum-is ∙ ap (λ (s : MotionVector → ℕ). s (recordOf q .vector)) (sym (one-sums q (made q)))
+  one-reads : coded rounding q .sum ≡ oneSum rounding q (answer rounding q) (coded rounding q .vector)
+  one-reads =
+      one-is .sum-is ∙ ap (λ (s : MotionVector → ℕ). s (coded rounding q .vector)) (sym (one-sums rounding q (answer rounding q)))
 
-  one-there : OneFound (modeIn q) (q .settings .fcode) (blockIn q) (oneSum 0 q (made q)) (recordOf q .vector)
+  one-there : OneFound (settings rounding q) (soughtIn q) (oneSum rounding q (answer rounding q)) (coded rounding q .vector)
   one-there =
-      subst (λ (s : MotionVector → ℕ). OneFound (modeIn q) (q .settings .fcode) (blockIn q) s (recordOf q .vector)) (sym (one-sums q (made q))) (one-is .found)
+      subst (λ (s : MotionVector → ℕ). OneFound (settings rounding q) (soughtIn q) s (coded rounding q .vector))
+      (sym (one-sums rounding q (answer rounding q))) (one-is .found)
 
 -- ---- each of four, where four were searched for
 
-module _ (q : Request) (e : q .settings .vectors ≡ 4) where
-  vectors-are : recordOf q .vectors ≡ fourOf (q .settings) (blockIn q) .vectors
-  unfolding recordOf searchedOf
-  vectors-are = then (eqb (q .settings .vectors) 4) (fourOf (q .settings) (blockIn q) .vectors) (replicate 4 zeroVector) (eq-eqb (q .settings .vectors) 4 e)
+module _ (rounding : ℕ) (q : Request) (e : q .settings .vectors ≡ 4) where
+  -- what was searched for, and the vector that seeded it
+  abbrev four : EstimatedFour
+  four = fourOf (settings rounding q) (soughtIn q)
 
-  sums-are : recordOf q .sums ≡ fourOf (q .settings) (blockIn q) .sums
-  unfolding recordOf searchedOf
-  sums-are = then (eqb (q .settings .vectors) 4) (fourOf (q .settings) (blockIn q) .sums) (replicate 4 0) (eq-eqb (q .settings .vectors) 4 e)
+  abbrev seed : MotionVector
+  seed = oneVector (settings rounding q) (soughtIn q) .vector
+
+  vectors-are : coded rounding q .vectors ≡ four .vectors
+  unfolding recordAt searchedOf
+  vectors-are = then (eqb (q .settings .vectors) 4) (four .vectors) (replicate 4 zeroVector) (eq-eqb (q .settings .vectors) 4 e)
+
+  sums-are : coded rounding q .sums ≡ four .sums
+  unfolding recordAt searchedOf
+  sums-are = then (eqb (q .settings .vectors) 4) (four .sums) (replicate 4 0) (eq-eqb (q .settings .vectors) 4 e)
 
   module _ (n : ℕ) (h : n < 4) where
     -- block n's vector
     abbrev vector : MotionVector
-    vector = getD (recordOf q .vectors) n zeroVector
+    vector = getD (coded rounding q .vectors) n zeroVector
 
-    block-is : BlockVector (modeIn q) (q .settings .fcode) (oneOf (q .settings) (blockIn q) .vector) (eight (blockIn q) n) vector (getD (recordOf q .sums) n 0)
-    block-is = rw (vectors-are, sums-are) (four-vectors (modeIn q) (q .settings .fcode) (oneOf (q .settings) (blockIn q) .vector) (blockIn q) .each n h)
+    block-is : BlockVector (settings rounding q) seed (eight (soughtIn q) n) vector (getD (coded rounding q .sums) n 0)
+    block-is = rw (vectors-are, sums-are) (four-vectors (settings rounding q) seed (soughtIn q) .each n h)
 
-    luma-read : getD (fourLuma 0 (handed q (made q))) n [] ≡ eightBy 0 (handed q (made q)) n vector
+    luma-read : getD (fourLuma rounding (handed q (answer rounding q))) n [] ≡ eightBy rounding (handed q (answer rounding q)) n vector
     luma-read =
-        let each : ℕ → List ℕ = λ k. eightBy 0 (handed q (made q)) k (getD (recordOf q .vectors) k zeroVector) in
+        let each : ℕ → List ℕ = λ k. eightBy rounding (handed q (answer rounding q)) k (getD (coded rounding q .vectors) k zeroVector) in
         ap (λ (l : List (List ℕ)). getD l n []) (then (eqb (q .settings .vectors) 4) (tabulate 4 each) [] (eq-eqb (q .settings .vectors) 4 e))
         ∙ getD-tabulate 4 each n [] h
 
-    block-reads : getD (recordOf q .sums) n 0 ≡ sumOver 8 (eightOf (source q .y) n) (getD (fourLuma 0 (handed q (made q))) n [])
+    block-reads : getD (coded rounding q .sums) n 0
+        ≡ sumOver 8 (eightOf (source q .y) n) (getD (fourLuma rounding (handed q (answer rounding q))) n [])
     block-reads =
         block-is .sum-is
-        ∙ ap (λ (s : MotionVector → ℕ). s vector) (sym (block-sums q (made q) n h))
+        ∙ ap (λ (s : MotionVector → ℕ). s vector) (sym (block-sums rounding q (answer rounding q) n h))
         ∙ ap (sumOver 8 (eightOf (source q .y) n)) (sym luma-read)
 
-    block-there : BlockFound (modeIn q) (q .settings .fcode) (recordOf q .vector) (blockSum 0 q (made q) n) vector
-    unfolding recordOf searchedOf
+    block-there : BlockFound (settings rounding q) (coded rounding q .vector) (blockSum rounding q (answer rounding q) n) vector
+    unfolding recordAt searchedOf
     block-there =
-        subst (λ (s : MotionVector → ℕ). BlockFound (modeIn q) (q .settings .fcode) (recordOf q .vector) s vector) (sym (block-sums q (made q) n h)) (block-is .found)
+        subst (λ (s : MotionVector → ℕ). BlockFound (settings rounding q) (coded rounding q .vector) s vector)
+        (sym (block-sums rounding q (answer rounding q) n h)) (block-is .found)
 
 -- ---- levels
 
-module _ (q : Request) where
-  levels-read : readLevels (handed q (made q)) ≡ levelsOf (quantisingIn q) (residual q)
-  unfolding recordOf
-  levels-read = levels-back (quantisingIn q) (residual q) (handed q (made q)) refl refl refl refl
+module _ (rounding : ℕ) (q : Request) where
+  levels-read : readLevels (handed q (answer rounding q)) ≡ levelsOf (quantisingIn q) (residual q)
+  unfolding recordAt
+  levels-read = levels-back (quantisingIn q) (residual q) (handed q (answer rounding q)) refl refl refl refl
 
-  inverse-read : (i : ℕ) → i < 384 → inverseAt q (made q) i ≡ inverseOf (q .settings .quantiser) (levelAt q (made q) i)
+  inverse-read : (i : ℕ) → i < 384
+      → readInverseAt q (answer rounding q) i ≡ inverseByQuantiser (q .settings .quantiser) (readLevelAt q (answer rounding q) i)
   unfolding readInverse
-  inverse-read i h = getD-tabulate 384 (λ i. inverseOf (q .settings .quantiser) (getD (readLevels (handed q (made q))) i (pos 0))) i (pos 0) h
+  inverse-read i h =
+      let at : ℕ → ℤ = λ i. inverseByQuantiser (q .settings .quantiser) (getD (readLevels (handed q (answer rounding q))) i (pos 0)) in
+      getD-tabulate 384 at i (pos 0) h
 
   level-near : Quantisable (quantisingIn q) → q .settings .«first_method» ≡ false → (i : ℕ) → i < 384
-      → Near (q .settings .quantiser) (coefficientAt q i) (levelAt q (made q) i)
+      → Near (q .settings .quantiser) (coefficientAt q i) (readLevelAt q (answer rounding q) i)
   level-near set second i h =
-      subst (Near (q .settings .quantiser) (coefficientAt q i)) (ap (λ (l : List ℤ). getD l i (pos 0)) (sym levels-read)) (all-near (quantisingIn q) set second (residual q) i h)
+      subst (Near (q .settings .quantiser) (coefficientAt q i)) (ap (λ (l : List ℤ). getD l i (pos 0)) (sym levels-read))
+      (all-near (quantisingIn q) set second (residual q) i h)
 
-  level-kept : Quantisable (quantisingIn q) → q .settings .«first_method» ≡ false → (i : ℕ) → i < 384 → (levelAt q (made q) i ≡ pos 0 → ⊥)
-      → natAbs (inverseAt q (made q) i -ℤ coefficientAt q i) ≤ reach (q .settings .quantiser)
+  level-kept : Quantisable (quantisingIn q) → q .settings .«first_method» ≡ false → (i : ℕ) → i < 384
+      → (readLevelAt q (answer rounding q) i ≡ pos 0 → ⊥)
+      → natAbs (readInverseAt q (answer rounding q) i -ℤ coefficientAt q i) ≤ tolerance (q .settings .quantiser)
   level-kept set second i h some =
-      subst (λ (z : ℤ). natAbs (z -ℤ coefficientAt q i) ≤ reach (q .settings .quantiser)) (sym (inverse-read i h)) (level-near set second i h .kept some)
+      subst (λ (z : ℤ). natAbs (z -ℤ coefficientAt q i) ≤ tolerance (q .settings .quantiser)) (sym (inverse-read i h))
+      (level-near set second i h .kept some)
 
-  made-demanded : Quantisable (quantisingIn q) → Demand 0 q (made q)
+  made-demanded : Quantisable (quantisingIn q) → Demand rounding q (answer rounding q)
   made-demanded set =
       record {
-        one-sum = one-reads q;
-        one-found = one-there q;
-        four-sums = block-reads q;
-        four-found = block-there q;
+        one-sum = one-reads rounding q;
+        one-found = one-there rounding q;
+        four-sums = block-reads rounding q;
+        four-found = block-there rounding q;
         levels = levels-read;
         near = level-kept set;
         dropped = λ second i h none. level-near set second i h .dropped none;
@@ -121,4 +152,4 @@ module _ (q : Request) where
 
 -- THE THEOREM
 pub demanded : (q : Request) → replyOf q ≡ Done → Demand 0 q (answerOf q)
-demanded q e = subst (Demand 0 q) (done-answer q _ _ e refl refl) (made-demanded q (accepted q e .quantisable))
+demanded q e = subst (Demand 0 q) (done-answer q _ _ e refl refl) (made-demanded 0 q (accepted q e .quantisable))

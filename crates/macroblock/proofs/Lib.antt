@@ -1,5 +1,8 @@
+-- What the crates above cite.
+pub mod Placed
+pub mod Demanded
+-- And laws that several proofs here cite.
 mod Accepted
 mod Answers
-pub mod Placed
 mod Sums
-pub mod Demanded
+mod Taken

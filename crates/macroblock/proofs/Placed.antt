@@ -14,10 +14,10 @@ use Rattle.refusal.proofs.Others.{Other, unless-other, and-then-other, done-oth
 use Rattle.plane.specs.declared.Geometry.{Geometry}
 use Rattle.plane.specs.declared.SourceSize.{SourceSize}
 use Rattle.plane.specs.declared.MacroblockPlace.{MacroblockPlace}
-use Rattle.plane.specs.Reference.{sized, referenceReply}
+use Rattle.plane.specs.Reference.{sized, referenceSizeReply, referenceBytesReply, referenceReply}
 use Rattle.plane.specs.Source.{chromaSize, sourceSideReply, holds, placeReply, sourceReply}
 use Rattle.quantise.specs.Block.{noZero, weightReply}
-use Rattle.search.specs.Estimate.{settingsReply}
+use Rattle.search.specs.Request.{settingsReply}
 use Rattle.macroblock.specs.declared.Lengths.{Lengths}
 use Rattle.macroblock.specs.Request.{Request, lengthsReply, choiceReply, requestReply, lengthsOf, replyOf}
 
@@ -31,9 +31,10 @@ settings-other fcode mode bpp =
     (unless-other (eqb mode 0 || between 1 8 bpp) BitsPerPixel (λ e. omega arith) (done-other (omega arith))))
 
 reference-other : (g : Geometry) (bytes : ℕ) → Other 8 (referenceReply g bytes)
-unfolding referenceReply
+unfolding referenceReply referenceSizeReply referenceBytesReply
 reference-other g bytes =
-    unless-other (sized g) ReferenceSize (λ e. omega arith)
+    and-then-other _
+    (unless-other (sized g) ReferenceSize (λ e. omega arith) (done-other (omega arith)))
     (unless-other (ltb ((g .height - 1) * g .stride + (g .width - 1)) bytes) ReferenceBytes (λ e. omega arith) (done-other (omega arith)))
 
 source-other : (s : SourceSize) (y cb cr : ℕ) (at : MacroblockPlace) → placeReply s at ≡ Done → Other 8 (sourceReply s y cb cr at)
@@ -63,9 +64,9 @@ choice-other vectors scan =
     unless-other ((eqb vectors 1 || eqb vectors 4) && between 0 2 scan) Choice (λ e. omega arith) (done-other (omega arith))
 
 -- THE LAW
-pub placed : (q : Request) → placeReply (q .size) (q .place) ≡ Done → codeOf (replyOf q) ≡ 8 → ⊥
+pub never-8 : (q : Request) → placeReply (q .size) (q .place) ≡ Done → codeOf (replyOf q) ≡ 8 → ⊥
 unfolding requestReply
-placed q e =
+never-8 q e =
     and-then-other _ (settings-other (q .settings .fcode) (q .settings .mode) (q .settings .bpp))
     (and-then-other _ (reference-other (q .geometry) _)
     (and-then-other _ (source-other (q .size) _ _ _ (q .place) e)

@@ -7,13 +7,14 @@ use lib.ListN.{getD}
 use Rattle.basis.proofs.Lists.{getD-raster}
 use Rattle.plane.specs.Plane.{copied}
 use Rattle.plane.specs.Source.{packed, eightOf}
-use Rattle.search.specs.Sums.{vectorSum, eight}
+use Rattle.full_search.specs.Block.{eight}
+use Rattle.search.specs.Sums.{vectorSum}
 use Rattle.search.proofs.WholeSums.{sum-of-blocks}
-use Rattle.macroblock.specs.Request.{Request, source, modeIn, blockIn}
+use Rattle.macroblock.specs.Request.{Request, source, searchIn, soughtIn}
 use Rattle.macroblock.specs.Answer.{Answer}
 use Rattle.macroblock.specs.Demand.{oneSum, blockSum}
 
-module _ (q : Request) (a : Answer) where
+module _ (rounding : ℕ) (q : Request) (a : Answer) where
   -- the source's luma at column i and row j of the macroblock
   abbrev sample : ℕ → ℕ → ℕ
   sample = copied (packed (q .y) (q .size)) (pos (16 * q .place .column)) (pos (16 * q .place .row))
@@ -22,11 +23,15 @@ module _ (q : Request) (a : Answer) where
   abbrev part : ℕ → ℕ → ℕ → ℕ
   part n i j = getD (source q .y) ((8 * (n / 2) + j) * 16 + (8 * (n % 2) + i)) 0
 
-  pub one-sums : oneSum 0 q a ≡ vectorSum (modeIn q) (blockIn q)
-  one-sums = fun-ext (sum-of-blocks (modeIn q) (blockIn q) (source q .y) (λ i j h k. getD-raster 16 16 sample i j 0 h k))
+  pub one-sums : oneSum rounding q a ≡ vectorSum (searchIn rounding (q .settings)) (soughtIn q)
+  one-sums =
+      fun-ext
+      (sum-of-blocks (searchIn rounding (q .settings)) (soughtIn q) (source q .y) (λ i j h k. getD-raster 16 16 sample i j 0 h k))
 
-  pub block-sums : (n : ℕ) → n < 4 → blockSum 0 q a n ≡ vectorSum (modeIn q) (eight (blockIn q) n)
+  pub block-sums : (n : ℕ) → n < 4 → blockSum rounding q a n ≡ vectorSum (searchIn rounding (q .settings)) (eight (soughtIn q) n)
   block-sums n less =
       fun-ext
-      (sum-of-blocks (modeIn q) (eight (blockIn q) n) (eightOf (source q .y) n)
-      (λ i j h k. getD-raster 8 8 (part n) i j 0 h k ∙ getD-raster 16 16 sample (8 * (n % 2) + i) (8 * (n / 2) + j) 0 (omega arith) (omega arith)))
+      (sum-of-blocks (searchIn rounding (q .settings)) (eight (soughtIn q) n) (eightOf (source q .y) n)
+      (λ i j h k.
+      getD-raster 8 8 (part n) i j 0 h k
+      ∙ getD-raster 16 16 sample (8 * (n % 2) + i) (8 * (n / 2) + j) 0 (omega arith) (omega arith)))

@@ -5,43 +5,37 @@ use mathlib.Core.List.{List}
 use lib.Dec.{eqb}
 use lib.IntN.{ℤ}
 use lib.ListN.{replicate}
-use Rattle.refusal.specs.declared.Reply.the-variants.{Done}
 use Rattle.refusal.specs.Reply.{done}
-use Rattle.record.specs.declared.MotionVector.{MotionVector}
 use Rattle.record.specs.declared.Record.{Record}
 use Rattle.record.specs.Zero.{zeroVector, noRecord}
-use Rattle.search.specs.declared.Scored.{Scored}
+use Rattle.full_search.specs.Block.{Block}
+use Rattle.search.specs.declared.SearchSettings.{SearchSettings}
 use Rattle.search.specs.declared.EstimatedFour.{EstimatedFour}
-use Rattle.search.specs.Sums.{Block}
-use Rattle.search.specs.Estimate.{modeOf, oneVector, fourVectors}
+use Rattle.search.specs.Estimate.{oneVector, fourVectors}
 use Rattle.reader.specs.Handed.{Areas, areas}
 use Rattle.coding.specs.Coding.{areasOf, countsOf, lumaPattern, chromaPattern}
 use Rattle.macroblock.specs.declared.Coded.{Coded}
 use Rattle.macroblock.specs.declared.Searched.{Searched}
-use Rattle.macroblock.specs.declared.Settings.{Settings}
-use Rattle.macroblock.specs.Request.{Request, residual, blockIn, quantisingIn, replyOf}
-
--- the one vector and its sum
-abbrev pub oneOf : Settings → Block → Scored
-oneOf s b = oneVector (modeOf (s .mode) (s .bpp)) (s .fcode) b
+use Rattle.macroblock.specs.Request.{Request, residual, searchIn, soughtIn, quantisingIn, replyOf}
 
 -- the four and their sums, seeded by the one
-abbrev pub fourOf : Settings → Block → EstimatedFour
-fourOf s b = fourVectors (modeOf (s .mode) (s .bpp)) (s .fcode) (oneOf s b .vector) b
+abbrev pub fourOf : SearchSettings → Block → EstimatedFour
+fourOf s b = fourVectors s (oneVector s b .vector) b
 
--- without a four-vector search the four and their sums are 0
-unfoldable pub searchedOf : Settings → Block → Searched
-searchedOf s b =
+-- by how many vectors are searched for: without a four-vector search the four and their sums are 0
+unfoldable pub searchedOf : ℕ → SearchSettings → Block → Searched
+searchedOf vectors s b =
     record {
-      vector = oneOf s b .vector;
-      sum = oneOf s b .cost;
-      vectors = cond (eqb (s .vectors) 4) (fourOf s b .vectors) (replicate 4 zeroVector);
-      sums = cond (eqb (s .vectors) 4) (fourOf s b .sums) (replicate 4 0);
+      vector = oneVector s b .vector;
+      sum = oneVector s b .cost;
+      vectors = cond (eqb vectors 4) (fourOf s b .vectors) (replicate 4 zeroVector);
+      sums = cond (eqb vectors 4) (fourOf s b .sums) (replicate 4 0);
     }
 
-unfoldable pub recordOf : Request → Record
-recordOf q =
-    let found = searchedOf (q .settings) (blockIn q) in
+-- the record of a search at a rounding type
+unfoldable pub recordAt : ℕ → Request → Record
+recordAt rounding q =
+    let found = searchedOf (q .settings .vectors) (searchIn rounding (q .settings)) (soughtIn q) in
     let counts = countsOf (quantisingIn q) (residual q) in
     record {
       vector = found .vector;
@@ -52,6 +46,10 @@ recordOf q =
       «chroma_pattern» = chromaPattern counts;
       counts = counts;
     }
+
+-- the entry searches at rounding type 0
+abbrev pub recordOf : Request → Record
+recordOf q = recordAt 0 q
 
 -- what a call gives back: its value, and what the three areas then hold
 pub record Answer : Type 0 where

@@ -11,14 +11,14 @@ use Rattle.record.specs.declared.Record.{Record}
 use Rattle.record.specs.Zero.{zeroVector}
 use Rattle.plane.specs.Plane.{planeOf}
 use Rattle.plane.specs.Source.{eightOf}
-use Rattle.quantise.specs.Near.{reach}
-use Rattle.search.specs.Sums.{differences}
+use Rattle.quantise.specs.Near.{tolerance}
+use Rattle.full_search.specs.Block.{differences, rowByRow}
 use Rattle.search.specs.Demand.{OneFound, BlockFound}
 use Rattle.reader.specs.Handed.{Handed}
 use Rattle.reader.specs.Luma.{sixteenBy, eightBy, oneLuma, fourLuma}
 use Rattle.reader.specs.Levels.{readLevels, readInverse}
 use Rattle.coding.specs.Coding.{transformed, levelsOf}
-use Rattle.macroblock.specs.Request.{Request, source, residual, modeIn, blockIn, quantisingIn}
+use Rattle.macroblock.specs.Request.{Request, source, residual, searchIn, modeIn, soughtIn, quantisingIn}
 use Rattle.macroblock.specs.Answer.{Answer}
 
 -- the record of an answer
@@ -41,7 +41,7 @@ handed q a =
 
 -- the absolute differences of two blocks of side x side samples by rows, added up
 abbrev pub sumOver : ℕ → List ℕ → List ℕ → ℕ
-sumOver side f g = differences side (λ i j. getD f (j * side + i) 0) (λ i j. getD g (j * side + i) 0)
+sumOver side f g = differences side (rowByRow side f) (rowByRow side g)
 
 -- the sum of any vector, reported or on a list: the source block against the reader's prediction by it
 abbrev pub oneSum : ℕ → Request → Answer → MotionVector → ℕ
@@ -54,28 +54,28 @@ blockSum rounding q a n v = sumOver 8 (eightOf (source q .y) n) (eightBy roundin
 abbrev pub coefficientAt : Request → ℕ → ℤ
 coefficientAt q i = getD (transformed (residual q)) i (pos 0)
 
-abbrev pub levelAt : Request → Answer → ℕ → ℤ
-levelAt q a i = getD (readLevels (handed q a)) i (pos 0)
+abbrev pub readLevelAt : Request → Answer → ℕ → ℤ
+readLevelAt q a i = getD (readLevels (handed q a)) i (pos 0)
 
-abbrev pub inverseAt : Request → Answer → ℕ → ℤ
-inverseAt q a i = getD (readInverse (handed q a)) i (pos 0)
+abbrev pub readInverseAt : Request → Answer → ℕ → ℤ
+readInverseAt q a i = getD (readInverse (handed q a)) i (pos 0)
 
 pub record Demand (rounding : ℕ) (q : Request) (a : Answer) : Type 0 where
   -- the absolute differences between the source block and the reader's luma prediction add to exactly the reported sum
   pub one-sum : recordIn a .sum ≡ sumOver 16 (source q .y) (oneLuma rounding (handed q a))
   -- both parts are in range; the vector stands on its sub-sample list, begun at the full-sample winner, where every entry has at least
   -- its sum and every entry before its first place a greater one
-  pub one-found : OneFound (modeIn q) (q .settings .fcode) (blockIn q) (oneSum rounding q a) (recordIn a .vector)
+  pub one-found : OneFound (searchIn rounding (q .settings)) (soughtIn q) (oneSum rounding q a) (recordIn a .vector)
   -- the same of each of four, where four were searched for
   pub four-sums : q .settings .vectors ≡ 4 → (n : ℕ) → n < 4
       → getD (recordIn a .sums) n 0 ≡ sumOver 8 (eightOf (source q .y) n) (getD (fourLuma rounding (handed q a)) n [])
   pub four-found : q .settings .vectors ≡ 4 → (n : ℕ) → n < 4
-      → BlockFound (modeIn q) (q .settings .fcode) (recordIn a .vector) (blockSum rounding q a n) (getD (recordIn a .vectors) n zeroVector)
+      → BlockFound (searchIn rounding (q .settings)) (recordIn a .vector) (blockSum rounding q a n) (getD (recordIn a .vectors) n zeroVector)
   -- from events and pattern the reader gets exactly the 384 levels of the quantised residual, under either method
   pub levels : readLevels (handed q a) ≡ levelsOf (quantisingIn q) (residual q)
   -- second method: every non-zero level, inverse quantised, lies within 1 (q = 1) or 3 floor(q/2) of its coefficient
-  pub near : q .settings .«first_method» ≡ false → (i : ℕ) → i < 384 → (levelAt q a i ≡ pos 0 → ⊥)
-      → natAbs (inverseAt q a i -ℤ coefficientAt q i) ≤ reach (q .settings .quantiser)
+  pub near : q .settings .«first_method» ≡ false → (i : ℕ) → i < 384 → (readLevelAt q a i ≡ pos 0 → ⊥)
+      → natAbs (readInverseAt q a i -ℤ coefficientAt q i) ≤ tolerance (q .settings .quantiser)
   -- and each zero level's coefficient is below 2q + floor(q/2) in size
-  pub dropped : q .settings .«first_method» ≡ false → (i : ℕ) → i < 384 → levelAt q a i ≡ pos 0
+  pub dropped : q .settings .«first_method» ≡ false → (i : ℕ) → i < 384 → readLevelAt q a i ≡ pos 0
       → natAbs (coefficientAt q i) < 2 * q .settings .quantiser + q .settings .quantiser / 2

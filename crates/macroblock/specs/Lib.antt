@@ -1,4 +1,7 @@
+-- To be believed.
 pub mod Request
 pub mod Answer
 pub mod Demand
 pub mod Activities
+-- Told.
+pub mod Told

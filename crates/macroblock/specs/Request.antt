@@ -17,9 +17,11 @@ use Rattle.plane.specs.Plane.{planeOf}
 use Rattle.plane.specs.Reference.{referenceReply}
 use Rattle.plane.specs.Source.{sourceReply}
 use Rattle.prediction.specs.declared.BVopSampleMode.{BVopSampleMode}
+use Rattle.prediction.specs.Luma.{modeOf}
 use Rattle.quantise.specs.Block.{weightReply}
-use Rattle.search.specs.Sums.{Block}
-use Rattle.search.specs.Estimate.{modeOf, macroblock, settingsReply}
+use Rattle.full_search.specs.Block.{Block}
+use Rattle.search.specs.declared.SearchSettings.{SearchSettings}
+use Rattle.search.specs.Request.{settingsOf, macroblock, settingsReply}
 use Rattle.reader.specs.Handed.{Areas, areas}
 use Rattle.coding.specs.Residual.{Samples, samples, sourceOf, residualOf}
 use Rattle.coding.specs.Coding.{Quantising, quantisingOf}
@@ -69,12 +71,15 @@ source q = sourceOf (q .y) (q .cb) (q .cr) (q .size) (q .place)
 abbrev pub residual : Request → List ℤ
 residual q = residualOf (source q) (q .prediction)
 
--- the mode, and the block that is searched for
+-- what the search goes by, at a rounding type; the mode of its vectors, and the block that is searched for
+abbrev pub searchIn : ℕ → Settings → SearchSettings
+searchIn rounding s = settingsOf rounding (s .mode) (s .bpp) (s .fcode)
+
 abbrev pub modeIn : Request → BVopSampleMode
 modeIn q = modeOf (q .settings .mode) (q .settings .bpp)
 
-abbrev pub blockIn : Request → Block
-blockIn q = macroblock (q .y) (q .size) (q .place) (planeOf (q .reference) (q .geometry))
+abbrev pub soughtIn : Request → Block
+soughtIn q = macroblock (q .y) (q .size) (q .place) (planeOf (q .reference) (q .geometry))
 
 -- what levels and events are made by
 abbrev pub quantisingIn : Request → Quantising
@@ -85,10 +90,9 @@ quantisingIn q = quantisingOf (q .settings .quantiser) (q .settings .«first_met
 -- 12: prediction not 256, 64, 64; matrix not 64, under either method; an area not 64 per block
 unfoldable pub lengthsReply : Lengths → Reply
 lengthsReply n =
-    unless
-    ((eqb (n .«pred_y») 256 && (eqb (n .«pred_cb») 64 && eqb (n .«pred_cr») 64)) && (eqb (n .weights) 64 && (eqb (n .lasts) 384 && (eqb (n .runs) 384 && eqb (n .levels) 384))))
-    Length
-    Done
+    let prediction = eqb (n .«pred_y») 256 && (eqb (n .«pred_cb») 64 && eqb (n .«pred_cr») 64) in
+    let areas = eqb (n .lasts) 384 && (eqb (n .runs) 384 && eqb (n .levels) 384) in
+    unless (prediction && (eqb (n .weights) 64 && areas)) Length Done
 
 -- 14: vector count not 1 or 4; scan number not 0..2
 unfoldable pub choiceReply : ℕ → ℕ → Reply

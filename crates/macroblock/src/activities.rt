@@ -2,7 +2,7 @@
 ghost use mathlib.Core.Path.{_≡_};
 ghost use Prim.Native.Nat.{_≤_};
 ghost use lib.ListN.{length};
-ghost use Rattle.search.specs.Sums.{absDiff};
+ghost use Rattle.basis.specs.Sums.{absDiff};
 ghost use Rattle.macroblock.specs.Activities.{meanOf, activityOf};
 
 fn wide(n: u8) -> u32

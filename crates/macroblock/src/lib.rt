@@ -41,7 +41,7 @@ pub struct Activity {
 }
 
 // The one vector and its sum; the four and theirs, all 0 where four were not searched for.
-pub struct Searched {
+struct Searched {
     pub vector: MotionVector,
     pub sum: u32,
     pub vectors: [MotionVector; 4],
@@ -49,7 +49,7 @@ pub struct Searched {
 }
 
 // The lengths of what a call lends.
-pub struct Lengths {
+struct Lengths {
     pub reference: usize,
     pub y: usize,
     pub cb: usize,

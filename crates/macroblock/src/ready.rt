@@ -3,13 +3,13 @@ ghost use mathlib.Core.Path.{_≡_};
 ghost use lib.ListN.{length};
 ghost use Rattle.refusal.specs.declared.Reply.the-variants.{Done};
 ghost use Rattle.plane.specs.Plane.{planeOf};
-ghost use Rattle.search.specs.Estimate.{macroblock, searchReply};
+ghost use Rattle.search.specs.Request.{searchRequest, macroblock, searchReply};
 ghost use Rattle.reader.specs.Handed.{areas};
 ghost use Rattle.coding.specs.Residual.{samples, sourceOf, residualOf};
 ghost use Rattle.coding.specs.Coding.{quantisingOf, countsOf, areasOf};
-ghost use Rattle.coding.specs.Told.{Quantisable, ResidualAccepted};
-ghost use Rattle.macroblock.specs.Request.{request, residual, quantisingIn, replyOf};
+ghost use Rattle.macroblock.specs.Request.{request, residual, searchIn, quantisingIn, replyOf};
 ghost use Rattle.macroblock.specs.Answer.{searchedOf, recordOf};
+ghost use Rattle.macroblock.specs.Told.{CodingNeeds};
 use crate::Searched;
 use crate::Settings;
 use plane::Geometry;
@@ -26,8 +26,14 @@ fn search_vectors(
     reference: &[u8],
     geometry: Geometry,
 ) -> Searched
-    requires { ⌜ searchReply (length (now y)) size place (length (now reference)) geometry (settings .mode) (settings .bpp) (settings .fcode) ≡ Done ⌝ }
-    ensures { λ r. ⌜ r ≡ searchedOf settings (macroblock (now (y .entry)) size place (planeOf (now (reference .entry)) geometry)) ⌝ }
+    requires { ⌜ (
+        let q = searchRequest (now y) size place (now reference) geometry (settings .mode) (settings .bpp) (settings .fcode) in
+        searchReply q ≡ Done
+        ) ⌝ }
+    ensures { λ r. ⌜ (
+        let b = macroblock (now (y .entry)) size place (planeOf (now (reference .entry)) geometry) in
+        r ≡ searchedOf (settings .vectors) (searchIn 0 settings) b
+        ) ⌝ }
 {
     let mode = settings.mode;
     let bpp = settings.bpp;
@@ -43,6 +49,7 @@ fn search_vectors(
             sums: [0; 4],
         };
     }
+    let seed = one.vector;
     let four = search::estimate_motion_4mv(
         y,
         size,
@@ -52,7 +59,7 @@ fn search_vectors(
         mode,
         bpp,
         fcode,
-        vector,
+        seed,
     );
     let vectors = four.vectors;
     let sums = four.sums;
@@ -73,24 +80,24 @@ fn code_residual(
     size: SourceSize,
     place: MacroblockPlace,
     matrix: &[u8],
-    pred_y: &[u8],
-    pred_cb: &[u8],
-    pred_cr: &[u8],
-    lasts: &mut [u8],
-    runs: &mut [u8],
+    lent_y: &[u8],
+    lent_cb: &[u8],
+    lent_cr: &[u8],
+    marks: &mut [u8],
+    zero_runs: &mut [u8],
     levels: &mut [i32],
 ) -> [u8; 6]
     requires { ⌜ (
-        let prediction = samples (now «pred_y») (now «pred_cb») (now «pred_cr») in
-        ResidualAccepted size (length (now y)) (length (now cb)) (length (now cr)) place prediction 384
-        × Quantisable (quantisingOf (settings .quantiser) (settings .«first_method») (now matrix) (settings .scan))
-        × (length (now lasts) ≡ 384) × (length (now runs) ≡ 384) × (length (now levels) ≡ 384)
+        let prediction = samples (now «lent_y») (now «lent_cb») (now «lent_cr») in
+        let by = quantisingOf (settings .quantiser) (settings .«first_method») (now matrix) (settings .scan) in
+        CodingNeeds size (length (now y)) (length (now cb)) (length (now cr)) place prediction by
+        (length (now marks)) (length (now «zero_runs»)) (length (now levels))
         ) ⌝ }
     ensures { λ r. ⌜ (
         let by = quantisingOf (settings .quantiser) (settings .«first_method») (now (matrix .entry)) (settings .scan) in
         let source = sourceOf (now (y .entry)) (now (cb .entry)) (now (cr .entry)) size place in
-        let prediction = samples (now («pred_y» .entry)) (now («pred_cb» .entry)) (now («pred_cr» .entry)) in
-        let new = areas (now (lasts .exit)) (now (runs .exit)) (now (levels .exit)) in
+        let prediction = samples (now («lent_y» .entry)) (now («lent_cb» .entry)) (now («lent_cr» .entry)) in
+        let new = areas (now (marks .exit)) (now («zero_runs» .exit)) (now (levels .exit)) in
         (r ≡ countsOf by (residualOf source prediction)) × (new ≡ areasOf by (residualOf source prediction))
         ) ⌝ }
 {
@@ -101,9 +108,9 @@ fn code_residual(
         cr,
         size,
         place,
-        pred_y,
-        pred_cb,
-        pred_cr,
+        lent_y,
+        lent_cb,
+        lent_cr,
         &mut differences,
     );
     let quantiser = settings.quantiser;
@@ -115,8 +122,8 @@ fn code_residual(
         first_method,
         matrix,
         scan,
-        lasts,
-        runs,
+        marks,
+        zero_runs,
         levels,
     );
     counted.counts

@@ -10,7 +10,7 @@ use Rattle.basis.proofs.Case.{both, leb-same}
 use Rattle.refusal.specs.declared.Refusal.the-variants.{AfterLast, OtherSize, Place}
 use Rattle.refusal.specs.declared.Reply.the-variants.{Done}
 use Rattle.refusal.specs.Reply.{unless}
-use Rattle.refusal.proofs.Replies.{held, after, passed}
+use Rattle.refusal.proofs.Replies.{unless-done, after, passed}
 use Rattle.refusal.proofs.Tests.{and-left, and-right}
 use Rattle.plane.specs.declared.SourceSize.{SourceSize}
 use Rattle.plane.specs.Source.{macroblocksOf, placeReply}
@@ -49,9 +49,9 @@ let-through r s e =
     let w = eqb (r .size .width) (s .width) in
     let h = eqb (r .size .height) (s .height) in
     let next = ltb (r .macroblocks) (macroblocksIn (r .size)) in
-    let same = held (w && h) OtherSize Done (after next AfterLast (unless (w && h) OtherSize Done) e) in
+    let same = unless-done (w && h) OtherSize Done (after next AfterLast (unless (w && h) OtherSize Done) e) in
     record {
-      left = ltb-true _ _ (held next AfterLast (unless (w && h) OtherSize Done) e);
+      left = ltb-true _ _ (unless-done next AfterLast (unless (w && h) OtherSize Done) e);
       width = eqb-true _ _ (and-left w h same);
       height = eqb-true _ _ (and-right w h same);
     }

@@ -118,7 +118,7 @@ covered-by s e =
     let h : macroblocksOf (s .height) ≤ 256 = omega (arith, sides-are s e .high-h) in
     product-le w h
 
--- THE LAW
+-- For the reader: THE LAW
 pub totalled : (s : SourceSize) → sourceSideReply s ≡ Done → (cs : List Call) → InTypes (recordsGiven (freshRun s) cs) → Totalled s cs
 totalled s e cs t =
     let ms = recordsGiven (freshRun s) cs in

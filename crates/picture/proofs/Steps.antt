@@ -20,7 +20,7 @@ use Rattle.reader.specs.Handed.{Areas}
 use Rattle.macroblock.specs.Request.{Request}
 use Rattle.macroblock.specs.Answer.{Answer, answerOf}
 use Rattle.macroblock.specs.Demand.{Demand}
-use Rattle.macroblock.proofs.Placed.{placed as placed-request}
+use Rattle.macroblock.proofs.Placed.{never-8}
 use Rattle.picture.specs.declared.Run.{Run}
 use Rattle.picture.specs.Run.{macroblocksIn, nextPlace, runReply, after, unlessRun, StepAnswer, stepOf}
 use Rattle.picture.specs.Calls.{placed, asked}
@@ -51,7 +51,7 @@ pub coded : (r : Run) (q : Request) (a : Answer) (n : Run) → runReply r (q .si
     → n ≡ done (a .coded .reply) (after r (a .coded .«record»)) r → with-run a n ≡ stepOf r q
 coded r q a n e p m = ap (with-run a) m ∙ ap (moved r) p ∙ by-reply r q Done e
 
--- a step that the run lets through is the entry's answer at the run's next place
+-- For the reader: a step that the run lets through is the entry's answer at the run's next place
 pub step-coded : (r : Run) (q : Request) → runReply r (q .size) ≡ Done → stepOf r (asked r q) .answer ≡ answerOf (asked r q)
 step-coded r q e = ap (λ (a : StepAnswer). a .answer) (sym (by-reply r (asked r q) Done e))
 
@@ -63,13 +63,13 @@ run-other r s =
     unless-other (ltb (r .macroblocks) (macroblocksIn (r .size))) AfterLast (λ e. omega arith)
     (unless-other same OtherSize (λ e. omega arith) (done-other (omega arith)))
 
--- 8 is never a step's reply
+-- For the reader: 8 is never a step's reply
 pub step-never-8 : (r : Run) (q : Request) → codeOf (stepOf r (asked r q) .answer .coded .reply) ≡ 8 → ⊥
 unfolding stepOf answerOf
 step-never-8 r q = by (runReply r (q .size)) refl
   where
     by : (w : Reply) → runReply r (q .size) ≡ w → codeOf (unlessRun w (answerOf (asked r q)) (q .areas) .coded .reply) ≡ 8 → ⊥
-    by Done e h = placed-request (asked r q) (step-inside r (q .size) e) h
+    by Done e h = never-8 (asked r q) (step-inside r (q .size) e) h
     by (Refused why) e h = run-other r (q .size) .is-not (ap codeOf e ∙ h)
 
 -- the entry's promise at a place that is the run's next, as a step's

@@ -77,8 +77,8 @@ pub record StepAnswer : Type 0 where
   pub answer : Answer
   pub run : Run
 
-abbrev pub stepped : Stepped → List ℕ → List ℕ → List ℤ → StepAnswer
-stepped s lasts runs levels =
+abbrev pub steppedTo : Stepped → List ℕ → List ℕ → List ℤ → StepAnswer
+steppedTo s lasts runs levels =
     record {
       answer = record { coded = record { reply = s .reply; «record» = s .«record» }; areas = areas lasts runs levels };
       run = s .run;

@@ -6,7 +6,7 @@ ghost use Rattle.refusal.specs.declared.Reply.the-variants.{Done};
 ghost use Rattle.refusal.specs.Reply.{done};
 ghost use Rattle.macroblock.specs.Request.{request};
 ghost use Rattle.macroblock.specs.Demand.{Demand};
-ghost use Rattle.picture.specs.Run.{macroblocksIn, freshRun, openOf, nextPlace, runReply, after, stepped, stepOf, closeOf};
+ghost use Rattle.picture.specs.Run.{macroblocksIn, freshRun, openOf, nextPlace, runReply, after, steppedTo, stepOf, closeOf};
 use macroblock::Settings;
 use plane::Geometry;
 use plane::MacroblockPlace;
@@ -180,7 +180,7 @@ pub fn step(
         let q = request settings (now (reference .entry)) geometry (now (y .entry)) (now (cb .entry)) (now (cr .entry)) size (nextPlace run)
         (now (weights .entry)) (now («pred_y» .entry)) (now («pred_cb» .entry)) (now («pred_cr» .entry))
         (now (lasts .entry)) (now (runs .entry)) (now (levels .entry)) in
-        let a = stepped r (now (lasts .exit)) (now (runs .exit)) (now (levels .exit)) in
+        let a = steppedTo r (now (lasts .exit)) (now (runs .exit)) (now (levels .exit)) in
         (a ≡ stepOf run q) × (r .reply ≡ Done → Demand 0 q (a .answer))
         ) ⌝ }
 {

@@ -8,7 +8,7 @@ use Rattle.basis.specs.Lists.{raster}
 use Rattle.basis.proofs.Bounds.{row-before}
 use Rattle.basis.proofs.Lists.{getD-raster, length-raster}
 use Rattle.plane.specs.Plane.{Plane, clampTo, sampleAt, copied}
-use Rattle.plane.specs.Held.{Held}
+use Rattle.plane.specs.ToldHeld.{Held}
 
 -- w columns and h rows from x, y on
 abbrev pub copyOf : Plane → ℤ → ℤ → ℕ → ℕ → Plane

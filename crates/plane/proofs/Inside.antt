@@ -6,7 +6,7 @@ use mathlib.Core.Path.{_≡_, ap, ap₂, _∙_}
 use lib.IntN.{ℤ, pos}
 use lib.ListN.{length, getD}
 use Rattle.plane.specs.Plane.{Plane, clampTo, sampleAt}
-use Rattle.plane.specs.Held.{Held}
+use Rattle.plane.specs.ToldHeld.{Held}
 
 -- row r, column c is within the samples
 pub in-plane : (p : Plane) (c r : ℕ) → Held p → c ≤ p .width - 1 → r ≤ p .height - 1 → r * p .stride + c < length (p .samples)
@@ -17,10 +17,12 @@ pub row-in-plane : (p : Plane) (r : ℕ) → Held p → r ≤ p .height - 1 → 
 row-in-plane p r h hr = omega (arith, in-plane p (p .width - 1) r h (omega arith) hr, h .wide)
 
 -- a coordinate inside is not clamped
-pub sample-inside : (p : Plane) (x y : ℤ) (c r : ℕ) → x ≡ pos c → y ≡ pos r → c < p .width → r < p .height → sampleAt p x y ≡ getD (p .samples) (r * p .stride + c) 0
+pub sample-inside : (p : Plane) (x y : ℤ) (c r : ℕ) → x ≡ pos c → y ≡ pos r → c < p .width → r < p .height
+    → sampleAt p x y ≡ getD (p .samples) (r * p .stride + c) 0
 unfolding sampleAt
 sample-inside p x y c r e f hc hr =
-    ap₂ (λ (i j : ℕ). getD (p .samples) (j * p .stride + i) 0) (ap (clampTo (p .width)) e ∙ stays c (p .width) hc) (ap (clampTo (p .height)) f ∙ stays r (p .height) hr)
+    ap₂ (λ (i j : ℕ). getD (p .samples) (j * p .stride + i) 0)
+    (ap (clampTo (p .width)) e ∙ stays c (p .width) hc) (ap (clampTo (p .height)) f ∙ stays r (p .height) hr)
   where
     stays : (n size : ℕ) → n < size → clampTo size (pos n) ≡ n
     stays n size h = omega arith

@@ -15,13 +15,13 @@ use Rattle.refusal.specs.declared.Reply.{Reply}
 use Rattle.refusal.specs.declared.Reply.the-variants.{Done}
 use Rattle.refusal.specs.Reply.{unless, andThen, done}
 use Rattle.refusal.specs.Test.{between}
-use Rattle.refusal.proofs.Replies.{joined, first-done, then-done, held, after, both-done, left}
+use Rattle.refusal.proofs.Replies.{joined, first-done, then-done, unless-done, after, both-done, left}
 use Rattle.refusal.proofs.Tests.{and-left, and-right, between-low, between-high}
 use Rattle.plane.specs.declared.SourceSize.{SourceSize}
 use Rattle.plane.specs.declared.MacroblockPlace.{MacroblockPlace}
-use Rattle.plane.specs.Held.{Held}
+use Rattle.plane.specs.ToldHeld.{Held}
 use Rattle.plane.specs.Reference.{lengthReply}
-use Rattle.plane.specs.Source.{chromaSize, packed, sourceSideReply, holds, macroblocksOf, placeReply, lumaReply, chromaReply, sourceReply, lumaBlock, chromaBlock, lumaBlockReply, chromaBlockReply}
+use Rattle.plane.specs.Source.{chromaSize, packed, sourceSideReply, holds, macroblocksOf, placeReply, sourceLumaReply, sourceChromaReply, sourceReply, sourceLuma, sourceChroma, sourceLumaBlockReply, sourceChromaBlockReply}
 use Rattle.plane.proofs.Ready.{length-done}
 
 -- a plane without columns, and one that has some
@@ -38,9 +38,9 @@ holds-some n w h t =
     some = omega (arith, t)
 
 -- 6, 7, 8 in a row, as the code joins them
-pub judging : {r a a′ b n n′ : Reply} {t t′ : Bool} → r ≡ andThen a b → a ≡ a′ → b ≡ unless t SourcePlane n → t ≡ t′ → n ≡ n′
+pub planes-judged : {r a a′ b n n′ : Reply} {t t′ : Bool} → r ≡ andThen a b → a ≡ a′ → b ≡ unless t SourcePlane n → t ≡ t′ → n ≡ n′
     → r ≡ andThen a′ (unless t′ SourcePlane n′)
-judging {r} {a} {a′} {b} {n} {n′} {t} {t′} e p q u v =
+planes-judged {r} {a} {a′} {b} {n} {n′} {t} {t′} e p q u v =
     joined e p (q ∙ ap (λ (x : Bool). unless x SourcePlane n) u ∙ ap (unless t′ SourcePlane) v)
 
 -- sides that are not refused
@@ -53,7 +53,7 @@ pub record Sides (s : SourceSize) : Type 0 where
 pub sides-are : (s : SourceSize) → sourceSideReply s ≡ Done → Sides s
 unfolding sourceSideReply
 sides-are s e =
-    let t = held (between 1 4096 (s .width) && between 1 4096 (s .height)) SourceSide Done e in
+    let t = unless-done (between 1 4096 (s .width) && between 1 4096 (s .height)) SourceSide Done e in
     let w = and-left (between 1 4096 (s .width)) (between 1 4096 (s .height)) t in
     let h = and-right (between 1 4096 (s .width)) (between 1 4096 (s .height)) t in
     record {
@@ -73,7 +73,7 @@ unfolding placeReply
 in-source s at e =
     let c = ltb (at .column) (macroblocksOf (s .width)) in
     let r = ltb (at .row) (macroblocksOf (s .height)) in
-    let t = held (c && r) Place Done e in
+    let t = unless-done (c && r) Place Done e in
     record { column = ltb-true _ _ (and-left c r t); row = ltb-true _ _ (and-right c r t) }
 
 -- 6, 7, 8 in a row, whatever 7 tests
@@ -87,7 +87,7 @@ judged s t at e =
     let n = then-done (sourceSideReply s) (unless t SourcePlane (placeReply s at)) e in
     record {
       sides = sides-are s (first-done (sourceSideReply s) (unless t SourcePlane (placeReply s at)) e);
-      planes = held t SourcePlane (placeReply s at) n;
+      planes = unless-done t SourcePlane (placeReply s at) n;
       place = in-source s at (after t SourcePlane (placeReply s at) n);
     }
 
@@ -97,8 +97,8 @@ pub record LumaReady (s : SourceSize) (y : ℕ) (at : MacroblockPlace) : Type 0 
   pub luma : s .width * s .height ≤ y
   pub place : InSource s at
 
-pub luma-ready : (s : SourceSize) (y : ℕ) (at : MacroblockPlace) → lumaReply s y at ≡ Done → LumaReady s y at
-unfolding lumaReply
+pub luma-ready : (s : SourceSize) (y : ℕ) (at : MacroblockPlace) → sourceLumaReply s y at ≡ Done → LumaReady s y at
+unfolding sourceLumaReply
 luma-ready s y at e =
     let j = judged s (holds s y) at e in
     record { sides = j .sides; luma = leb-true _ _ (j .planes); place = j .place }
@@ -109,31 +109,11 @@ pub record ChromaReady (s : SourceSize) (c : ℕ) (at : MacroblockPlace) : Type 
   pub chroma : chromaSize s .width * chromaSize s .height ≤ c
   pub place : InSource s at
 
-pub chroma-ready : (s : SourceSize) (c : ℕ) (at : MacroblockPlace) → chromaReply s c at ≡ Done → ChromaReady s c at
-unfolding chromaReply
+pub chroma-ready : (s : SourceSize) (c : ℕ) (at : MacroblockPlace) → sourceChromaReply s c at ≡ Done → ChromaReady s c at
+unfolding sourceChromaReply
 chroma-ready s c at e =
     let j = judged s (holds (chromaSize s) c) at e in
     record { sides = j .sides; chroma = leb-true _ _ (j .planes); place = j .place }
-
--- all three are: luma's record and each chroma plane's
-pub record SourceReady (s : SourceSize) (y cb cr : ℕ) (at : MacroblockPlace) : Type 0 where
-  pub luma : LumaReady s y at
-  pub blue : ChromaReady s cb at
-  pub red : ChromaReady s cr at
-
-pub source-ready : (s : SourceSize) (y cb cr : ℕ) (at : MacroblockPlace) → sourceReply s y cb cr at ≡ Done → SourceReady s y cb cr at
-unfolding sourceReply
-source-ready s y cb cr at e =
-    let a = holds s y in
-    let b = holds (chromaSize s) cb in
-    let c = holds (chromaSize s) cr in
-    let j = judged s (a && (b && c)) at e in
-    let bc = and-right a (b && c) (j .planes) in
-    record {
-      luma = record { sides = j .sides; luma = leb-true _ _ (and-left a (b && c) (j .planes)); place = j .place };
-      blue = record { sides = j .sides; chroma = leb-true _ _ (and-left b c bc); place = j .place };
-      red = record { sides = j .sides; chroma = leb-true _ _ (and-right b c bc); place = j .place };
-    }
 
 -- a plane as long as its width times its height holds its samples
 packed-held : (l : List ℕ) (s : SourceSize) → 1 ≤ s .width → 1 ≤ s .height → s .width * s .height ≤ length l → Held (packed l s)
@@ -175,21 +155,21 @@ module _ (s : SourceSize) (y cb cr : ℕ) (at : MacroblockPlace) (e : sourceRepl
       ∙ after three SourcePlane (placeReply s at) past-side
 
   three-held : three ≡ true
-  three-held = held three SourcePlane (placeReply s at) past-side
+  three-held = unless-done three SourcePlane (placeReply s at) past-side
 
-  pub luma-alone : lumaReply s y at ≡ Done
-  unfolding lumaReply
+  pub luma-alone : sourceLumaReply s y at ≡ Done
+  unfolding sourceLumaReply
   luma-alone = one-plane (holds s y) (and-left (holds s y) (holds (chromaSize s) cb && holds (chromaSize s) cr) three-held)
 
   two-held : (holds (chromaSize s) cb && holds (chromaSize s) cr) ≡ true
   two-held = and-right (holds s y) (holds (chromaSize s) cb && holds (chromaSize s) cr) three-held
 
-  pub blue-alone : chromaReply s cb at ≡ Done
-  unfolding chromaReply
+  pub blue-alone : sourceChromaReply s cb at ≡ Done
+  unfolding sourceChromaReply
   blue-alone = one-plane (holds (chromaSize s) cb) (and-left (holds (chromaSize s) cb) (holds (chromaSize s) cr) two-held)
 
-  pub red-alone : chromaReply s cr at ≡ Done
-  unfolding chromaReply
+  pub red-alone : sourceChromaReply s cr at ≡ Done
+  unfolding sourceChromaReply
   red-alone = one-plane (holds (chromaSize s) cr) (and-right (holds (chromaSize s) cb) (holds (chromaSize s) cr) two-held)
 
 -- an area of w h places, where nothing is refused, holds the block
@@ -197,10 +177,10 @@ block-is : (judged : Reply) (w h : ℕ) (block old out : List ℕ) (r : Reply) �
     → r ≡ andThen judged (lengthReply (length old) w h) → out ≡ done r block old → out ≡ block
 block-is judged w h block old out r e f k o = left r _ block old out k (both-done e (length-done (length old) w h f)) o
 
-pub luma-is : (y : List ℕ) (s : SourceSize) (at : MacroblockPlace) (r : Reply) (old out : List ℕ) → lumaReply s (length y) at ≡ Done → length old ≡ 256
-    → r ≡ lumaBlockReply s (length y) at (length old) → out ≡ done r (lumaBlock y s at) old → out ≡ lumaBlock y s at
-luma-is y s at r old out = block-is (lumaReply s (length y) at) 16 16 (lumaBlock y s at) old out r
+pub luma-is : (y : List ℕ) (s : SourceSize) (at : MacroblockPlace) (r : Reply) (old out : List ℕ) → sourceLumaReply s (length y) at ≡ Done → length old ≡ 256
+    → r ≡ sourceLumaBlockReply s (length y) at (length old) → out ≡ done r (sourceLuma y s at) old → out ≡ sourceLuma y s at
+luma-is y s at r old out = block-is (sourceLumaReply s (length y) at) 16 16 (sourceLuma y s at) old out r
 
-pub chroma-is : (c : List ℕ) (s : SourceSize) (at : MacroblockPlace) (r : Reply) (old out : List ℕ) → chromaReply s (length c) at ≡ Done → length old ≡ 64
-    → r ≡ chromaBlockReply s (length c) at (length old) → out ≡ done r (chromaBlock c s at) old → out ≡ chromaBlock c s at
-chroma-is c s at r old out = block-is (chromaReply s (length c) at) 8 8 (chromaBlock c s at) old out r
+pub chroma-is : (c : List ℕ) (s : SourceSize) (at : MacroblockPlace) (r : Reply) (old out : List ℕ) → sourceChromaReply s (length c) at ≡ Done → length old ≡ 64
+    → r ≡ sourceChromaBlockReply s (length c) at (length old) → out ≡ done r (sourceChroma c s at) old → out ≡ sourceChroma c s at
+chroma-is c s at r old out = block-is (sourceChromaReply s (length c) at) 8 8 (sourceChroma c s at) old out r

@@ -11,7 +11,7 @@ use Rattle.basis.proofs.Lists.{tabulate-two}
 use Rattle.basis.proofs.Parts.{sides, above-add, above-sub, below-sub}
 use Rattle.basis.proofs.Slices.{part-is, part-at, part-length, part-tabulate}
 use Rattle.plane.specs.Plane.{Plane, clampTo, sampleAt}
-use Rattle.plane.specs.Held.{Held, clampedIn}
+use Rattle.plane.specs.ToldHeld.{Held, clampedIn}
 use Rattle.plane.proofs.Inside.{row-in-plane}
 
 -- n samples that all lie in the row, as the part `&row[a..a + n]` has them

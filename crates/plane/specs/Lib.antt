@@ -1,4 +1,5 @@
 pub mod Plane
+pub mod Corner
 pub mod Reference
 pub mod Source
-pub mod Held
+pub mod ToldHeld

@@ -13,6 +13,7 @@ use Rattle.refusal.specs.Test.{between, inRange}
 use Rattle.record.specs.declared.MotionVector.{MotionVector}
 use Rattle.plane.specs.declared.Geometry.{Geometry}
 use Rattle.plane.specs.declared.Point.{Point}
+use Rattle.plane.specs.declared.Site.{Site}
 use Rattle.plane.specs.declared.Fetched.{Fetched}
 use Rattle.plane.specs.declared.Fetched.the-variants.{Sample, Refused as NoSample}
 use Rattle.plane.specs.Plane.{planeOf, sampleAt}
@@ -21,11 +22,17 @@ use Rattle.plane.specs.Plane.{planeOf, sampleAt}
 abbrev pub sized : Geometry → Bool
 sized g = between 1 4096 (g .width) && (between 1 4096 (g .height) && between (g .width) 8192 (g .stride))
 
--- 4: sizes outside bounds. 5: bytes at most (height - 1) * stride + width - 1
+-- 4: sizes outside bounds
+unfoldable pub referenceSizeReply : Geometry → Reply
+referenceSizeReply g = unless (sized g) ReferenceSize Done
+
+-- 5: bytes at most (height - 1) * stride + width - 1
+unfoldable pub referenceBytesReply : Geometry → ℕ → Reply
+referenceBytesReply g bytes = unless (ltb ((g .height - 1) * g .stride + (g .width - 1)) bytes) ReferenceBytes Done
+
+-- 4, 5
 unfoldable pub referenceReply : Geometry → ℕ → Reply
-referenceReply g bytes =
-    unless (sized g) ReferenceSize
-    (unless (ltb ((g .height - 1) * g .stride + (g .width - 1)) bytes) ReferenceBytes Done)
+referenceReply g bytes = andThen (referenceSizeReply g) (referenceBytesReply g bytes)
 
 abbrev pub originInRange : Point → Bool
 originInRange o = inRange (negsuc 4095) (pos 4096) (o .x) && inRange (negsuc 4095) (pos 4096) (o .y)
@@ -49,9 +56,11 @@ unfoldable pub sideReply : ℕ → ℕ → Reply
 sideReply w h = unless (isSide w && isSide h) Choice Done
 
 -- 4, 5, 8, 12, 14
-unfoldable pub blockReply : Geometry → ℕ → MotionVector → Point → ℕ → ℕ → ℕ → Reply
-blockReply g bytes v o w h area =
-    andThen (referenceReply g bytes) (andThen (motionReply v o) (andThen (lengthReply area w h) (sideReply w h)))
+unfoldable pub blockReply : Geometry → ℕ → MotionVector → Site → ℕ → Reply
+blockReply g bytes v s area =
+    andThen (referenceReply g bytes)
+    (andThen (motionReply v (s .corner))
+    (andThen (lengthReply area (s .width) (s .height)) (sideReply (s .width) (s .height))))
 
 -- 4, 5, 12
 unfoldable pub copyReply : Geometry → ℕ → ℕ → ℕ → ℕ → Reply

@@ -3,7 +3,6 @@ use Prim.Native.Nat.{ℕ, _+_, _*_, _/_, _%_}
 use mathlib.Core.Bool.{Bool, _&&_}
 use mathlib.Core.List.{List}
 use lib.Dec.{leb, ltb}
-use lib.IntN.{pos}
 use lib.ListN.{getD}
 use Rattle.basis.specs.Lists.{raster}
 use Rattle.refusal.specs.declared.Refusal.the-variants.{SourceSide, SourcePlane, Place}
@@ -13,7 +12,8 @@ use Rattle.refusal.specs.Reply.{unless, andThen}
 use Rattle.refusal.specs.Test.{between}
 use Rattle.plane.specs.declared.SourceSize.{SourceSize}
 use Rattle.plane.specs.declared.MacroblockPlace.{MacroblockPlace}
-use Rattle.plane.specs.Plane.{Plane, copied}
+use Rattle.plane.specs.Plane.{Plane, copiedBlock}
+use Rattle.plane.specs.Corner.{cornerAt}
 use Rattle.plane.specs.Reference.{lengthReply}
 
 -- a chroma side is half the luma side, rounded up
@@ -44,30 +44,30 @@ unfoldable pub placeReply : SourceSize → MacroblockPlace → Reply
 placeReply s at = unless (ltb (at .column) (macroblocksOf (s .width)) && ltb (at .row) (macroblocksOf (s .height))) Place Done
 
 -- 6, 7, 8 where luma alone is handed in, where one chroma plane is, and where all three are
-unfoldable pub lumaReply : SourceSize → ℕ → MacroblockPlace → Reply
-lumaReply s y at = andThen (sourceSideReply s) (unless (holds s y) SourcePlane (placeReply s at))
+unfoldable pub sourceLumaReply : SourceSize → ℕ → MacroblockPlace → Reply
+sourceLumaReply s y at = andThen (sourceSideReply s) (unless (holds s y) SourcePlane (placeReply s at))
 
-unfoldable pub chromaReply : SourceSize → ℕ → MacroblockPlace → Reply
-chromaReply s c at = andThen (sourceSideReply s) (unless (holds (chromaSize s) c) SourcePlane (placeReply s at))
+unfoldable pub sourceChromaReply : SourceSize → ℕ → MacroblockPlace → Reply
+sourceChromaReply s c at = andThen (sourceSideReply s) (unless (holds (chromaSize s) c) SourcePlane (placeReply s at))
 
 unfoldable pub sourceReply : SourceSize → ℕ → ℕ → ℕ → MacroblockPlace → Reply
 sourceReply s y cb cr at =
     andThen (sourceSideReply s) (unless (holds s y && (holds (chromaSize s) cb && holds (chromaSize s) cr)) SourcePlane (placeReply s at))
 
 -- the 16 x 16 luma block and an 8 x 8 chroma block of a macroblock
-abbrev pub lumaBlock : List ℕ → SourceSize → MacroblockPlace → List ℕ
-lumaBlock y s at = raster 16 16 (copied (packed y s) (pos (16 * at .column)) (pos (16 * at .row)))
+abbrev pub sourceLuma : List ℕ → SourceSize → MacroblockPlace → List ℕ
+sourceLuma y s at = copiedBlock (packed y s) (cornerAt 16 at) 16 16
 
-abbrev pub chromaBlock : List ℕ → SourceSize → MacroblockPlace → List ℕ
-chromaBlock c s at = raster 8 8 (copied (packed c (chromaSize s)) (pos (8 * at .column)) (pos (8 * at .row)))
+abbrev pub sourceChroma : List ℕ → SourceSize → MacroblockPlace → List ℕ
+sourceChroma c s at = copiedBlock (packed c (chromaSize s)) (cornerAt 8 at) 8 8
 
 -- 8 x 8 block n of 16 x 16 luma samples, 0 and 1 above 2 and 3
 abbrev pub eightOf : List ℕ → ℕ → List ℕ
 eightOf y n = raster 8 8 (λ i j. getD y ((8 * (n / 2) + j) * 16 + (8 * (n % 2) + i)) 0)
 
 -- 6, 7, 8, 12
-abbrev pub lumaBlockReply : SourceSize → ℕ → MacroblockPlace → ℕ → Reply
-lumaBlockReply s y at area = andThen (lumaReply s y at) (lengthReply area 16 16)
+abbrev pub sourceLumaBlockReply : SourceSize → ℕ → MacroblockPlace → ℕ → Reply
+sourceLumaBlockReply s y at area = andThen (sourceLumaReply s y at) (lengthReply area 16 16)
 
-abbrev pub chromaBlockReply : SourceSize → ℕ → MacroblockPlace → ℕ → Reply
-chromaBlockReply s c at area = andThen (chromaReply s c at) (lengthReply area 8 8)
+abbrev pub sourceChromaBlockReply : SourceSize → ℕ → MacroblockPlace → ℕ → Reply
+sourceChromaBlockReply s c at area = andThen (sourceChromaReply s c at) (lengthReply area 8 8)

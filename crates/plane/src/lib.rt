@@ -1,12 +1,13 @@
 // Planes of samples. A reference is read with both coordinates clamped into it (7.6.4), sample by sample or as a copied block;
 // `source` has the blocks of the picture that is coded.
 ghost use mathlib.Core.Path.{_≡_};
-ghost use Prim.Native.Nat.{_-_, min};
+ghost use Prim.Native.Nat.{_+_, _-_, _*_, min};
+ghost use lib.Dec.{ltb};
 ghost use lib.IntN.{pos, _+ℤ_};
 ghost use lib.ListN.{length};
 ghost use Rattle.refusal.specs.Reply.{done};
 ghost use Rattle.plane.specs.Plane.{planeOf, clampTo, copiedBlock};
-ghost use Rattle.plane.specs.Reference.{originInRange, vectorInRange, isSide, referenceReply, motionReply, lengthReply, sideReply, blockReply, copyReply, sameReply, fetched};
+ghost use Rattle.plane.specs.Reference.{originInRange, vectorInRange, isSide, referenceSizeReply, referenceBytesReply, referenceReply, motionReply, lengthReply, sideReply, blockReply, copyReply, sameReply, fetched};
 use record::MotionVector;
 use refusal::Refusal;
 use refusal::Reply;
@@ -25,6 +26,13 @@ pub struct Geometry {
 pub struct Point {
     pub x: i32,
     pub y: i32,
+}
+
+// Where a block stands in a plane: its corner, how wide and how high it is.
+pub struct Site {
+    pub corner: Point,
+    pub width: usize,
+    pub height: usize,
 }
 
 // The picture that is coded, in luma samples.
@@ -78,24 +86,68 @@ pub fn clamp_coordinate(x: i32, i: usize, size: usize) -> usize
     up + i
 }
 
-// 4, 5
-pub fn reference_reply(geometry: Geometry, bytes: usize) -> Reply
-    ensures { λ r. ⌜ r ≡ referenceReply geometry bytes ⌝ }
+// 4
+pub fn reference_size_reply(geometry: Geometry) -> Reply
+    ensures { λ r. ⌜ r ≡ referenceSizeReply geometry ⌝ }
 {
     let w = geometry.width;
     let h = geometry.height;
     let t = geometry.stride;
-    if !refusal::both(
+    let sized = refusal::both(
         refusal::between(1, 4096, w),
         refusal::both(refusal::between(1, 4096, h), refusal::between(w, 8192, t)),
-    ) {
-        return Reply::Refused(Refusal::ReferenceSize);
+    );
+    refusal::unless(sized, Refusal::ReferenceSize, Reply::Done)
+}
+
+// One less, and 0 of 0.
+fn one_less(n: usize) -> usize
+    ensures { λ r. ⌜ r ≡ n - 1 ⌝ }
+{
+    if n == 0 {
+        return 0;
     }
-    refusal::unless(
-        (h - 1) * t + (w - 1) < bytes,
-        Refusal::ReferenceBytes,
-        Reply::Done,
-    )
+    n - 1
+}
+
+// Whether rows * stride + column is below n, for any numbers: small ones are multiplied, for others the sum itself may not fit.
+fn is_inside(rows: usize, stride: usize, column: usize, n: usize) -> bool
+    ensures { λ r. ⌜ r ≡ ltb (rows * stride + column) n ⌝ }
+{
+    if rows <= 65535 {
+        if stride <= 65535 {
+            if column <= 65535 {
+                return rows * stride + column < n;
+            }
+        }
+    }
+    if n <= column {
+        return false;
+    }
+    if stride == 0 {
+        return true;
+    }
+    rows <= (n - column - 1) / stride
+}
+
+// 5, of any sizes
+pub fn reference_bytes_reply(geometry: Geometry, bytes: usize) -> Reply
+    ensures { λ r. ⌜ r ≡ referenceBytesReply geometry bytes ⌝ }
+{
+    let rows = one_less(geometry.height);
+    let column = one_less(geometry.width);
+    let long = is_inside(rows, geometry.stride, column, bytes);
+    refusal::unless(long, Refusal::ReferenceBytes, Reply::Done)
+}
+
+// 4, 5. Where the sizes are refused nothing is computed with them.
+pub fn reference_reply(geometry: Geometry, bytes: usize) -> Reply
+    ensures { λ r. ⌜ r ≡ referenceReply geometry bytes ⌝ }
+{
+    match reference_size_reply(geometry) {
+        Reply::Refused(why) => Reply::Refused(why),
+        Reply::Done => reference_bytes_reply(geometry, bytes),
+    }
 }
 
 fn origin_in_range(origin: Point) -> bool
@@ -157,16 +209,15 @@ pub fn block_reply(
     geometry: Geometry,
     bytes: usize,
     vector: MotionVector,
-    origin: Point,
-    block_w: usize,
-    block_h: usize,
+    site: Site,
     area: usize,
 ) -> Reply
-    ensures { λ r. ⌜ r ≡ blockReply geometry bytes vector origin «block_w» «block_h» area ⌝ }
+    ensures { λ r. ⌜ r ≡ blockReply geometry bytes vector site area ⌝ }
 {
-    let sides = side_reply(block_w, block_h);
-    let last = refusal::and_then(length_reply(area, block_w, block_h), sides);
-    let second = refusal::and_then(motion_reply(vector, origin), last);
+    let corner = site.corner;
+    let sides = side_reply(site.width, site.height);
+    let last = refusal::and_then(length_reply(area, site.width, site.height), sides);
+    let second = refusal::and_then(motion_reply(vector, corner), last);
     refusal::and_then(reference_reply(geometry, bytes), second)
 }
 
@@ -192,7 +243,7 @@ pub fn copy_samples(from: &[u8], out: &mut [u8]) -> Reply
     Reply::Done
 }
 
-// The block of w columns and h rows from a point on, row by row: 4, 5, 12.
+// The block of w columns and h rows from a point on, row by row: 4, 5, 12. One without columns takes no work, however many rows.
 pub fn copy_block(
     samples: &[u8],
     geometry: Geometry,

@@ -1,14 +1,12 @@
 // The source picture of a macroblock: what its sizes, planes and place are refused for (6, 7, 8), and its blocks.
 // Nothing here adds or multiplies sizes that are not yet known to be small, so every refusal is judged for any numbers.
 ghost use mathlib.Core.Path.{_≡_};
-ghost use Prim.Native.Nat.{_+_, _*_, _/_, _<_, _≤_};
-ghost use lib.IntN.{pos};
 ghost use lib.ListN.{length};
-ghost use Rattle.basis.specs.Lists.{raster};
 ghost use Rattle.refusal.specs.Reply.{done};
-ghost use Rattle.plane.specs.Plane.{copied};
-ghost use Rattle.plane.specs.Held.{Held};
-ghost use Rattle.plane.specs.Source.{halved, chromaSize, packed, sourceSideReply, holds, macroblocksOf, placeReply, lumaReply, chromaReply, sourceReply, lumaBlock, chromaBlock, lumaBlockReply, chromaBlockReply};
+ghost use Rattle.plane.specs.Plane.{copiedBlock};
+ghost use Rattle.plane.specs.Corner.{cornerAt};
+ghost use Rattle.plane.specs.ToldHeld.{PartNeeds};
+ghost use Rattle.plane.specs.Source.{halved, chromaSize, packed, sourceSideReply, holds, macroblocksOf, placeReply, sourceLumaReply, sourceChromaReply, sourceReply, sourceLuma, sourceChroma, sourceLumaBlockReply, sourceChromaBlockReply};
 use crate::Geometry;
 use crate::MacroblockPlace;
 use crate::Point;
@@ -77,7 +75,7 @@ fn place_reply(size: SourceSize, place: MacroblockPlace) -> Reply
 
 // 6, 7 for luma alone, 8.
 pub fn luma_reply(size: SourceSize, y: usize, place: MacroblockPlace) -> Reply
-    ensures { λ r. ⌜ r ≡ lumaReply size y place ⌝ }
+    ensures { λ r. ⌜ r ≡ sourceLumaReply size y place ⌝ }
 {
     let last = refusal::unless(
         holds(size, y),
@@ -89,7 +87,7 @@ pub fn luma_reply(size: SourceSize, y: usize, place: MacroblockPlace) -> Reply
 
 // 6, 7 for one chroma plane, 8.
 pub fn chroma_reply(size: SourceSize, chroma: usize, place: MacroblockPlace) -> Reply
-    ensures { λ r. ⌜ r ≡ chromaReply size chroma place ⌝ }
+    ensures { λ r. ⌜ r ≡ sourceChromaReply size chroma place ⌝ }
 {
     let last = refusal::unless(
         holds(chroma_size(size), chroma),
@@ -120,8 +118,8 @@ pub fn source_reply(
 
 // The block of `side` columns and rows that is the macroblock's in a plane of this size.
 fn copy_part(samples: &[u8], size: SourceSize, place: MacroblockPlace, side: usize, out: &mut [u8])
-    requires { ⌜ Held (packed (now samples) size) × (place .column < 256) × (place .row < 256) × (side ≤ 16) × (length (now out) ≡ side * side) ⌝ }
-    ensures { λ _. ⌜ now (out .exit) ≡ raster side side (copied (packed (now (samples .entry)) size) (pos (side * place .column)) (pos (side * place .row))) ⌝ }
+    requires { ⌜ PartNeeds (now samples) size place side (length (now out)) ⌝ }
+    ensures { λ _. ⌜ now (out .exit) ≡ copiedBlock (packed (now (samples .entry)) size) (cornerAt side place) side side ⌝ }
 {
     let geometry = Geometry {
         width: size.width,
@@ -137,8 +135,8 @@ fn copy_part(samples: &[u8], size: SourceSize, place: MacroblockPlace, side: usi
 
 // The macroblock's 16 x 16 luma samples, row by row: 6, 7, 8, 12.
 pub fn luma_block(y: &[u8], size: SourceSize, place: MacroblockPlace, out: &mut [u8]) -> Reply
-    ensures { λ r. ⌜ r ≡ lumaBlockReply size (length (now (y .entry))) place (length (now (out .entry))) ⌝ }
-    ensures { λ r. ⌜ now (out .exit) ≡ done r (lumaBlock (now (y .entry)) size place) (now (out .entry)) ⌝ }
+    ensures { λ r. ⌜ r ≡ sourceLumaBlockReply size (length (now (y .entry))) place (length (now (out .entry))) ⌝ }
+    ensures { λ r. ⌜ now (out .exit) ≡ done r (sourceLuma (now (y .entry)) size place) (now (out .entry)) ⌝ }
 {
     let reply = refusal::and_then(
         luma_reply(size, y.len(), place),
@@ -160,8 +158,8 @@ pub fn chroma_block(
     place: MacroblockPlace,
     out: &mut [u8],
 ) -> Reply
-    ensures { λ r. ⌜ r ≡ chromaBlockReply size (length (now (chroma .entry))) place (length (now (out .entry))) ⌝ }
-    ensures { λ r. ⌜ now (out .exit) ≡ done r (chromaBlock (now (chroma .entry)) size place) (now (out .entry)) ⌝ }
+    ensures { λ r. ⌜ r ≡ sourceChromaBlockReply size (length (now (chroma .entry))) place (length (now (out .entry))) ⌝ }
+    ensures { λ r. ⌜ now (out .exit) ≡ done r (sourceChroma (now (chroma .entry)) size place) (now (out .entry)) ⌝ }
 {
     let reply = refusal::and_then(
         chroma_reply(size, chroma.len(), place),

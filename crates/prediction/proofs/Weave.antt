@@ -7,7 +7,7 @@ use lib.ListN.{getD}
 use lib.Seq.{ext-getD}
 use Rattle.basis.specs.Lists.{rows, raster}
 use Rattle.basis.proofs.Lists.{length-raster, getD-raster, getD-rows}
-use Rattle.prediction.specs.Four.{partAt}
+use Rattle.prediction.specs.ToldFour.{partAt}
 
 module _ (f : ℕ → ℕ → ℕ → ℕ) where
   -- the blocks, one after the other
@@ -18,7 +18,8 @@ module _ (f : ℕ → ℕ → ℕ → ℕ) where
   from-block : (i n : ℕ) → i < 8 → n < 32 → getD blocks (partAt n + i) 0 ≡ f (n % 2 + 2 * (n / 16)) i (n / 2 % 8)
   from-block i n p q =
       ap (λ (m : ℕ). getD blocks m 0) (place (n % 2 + 2 * (n / 16)) (n / 2 % 8))
-      ∙ getD-rows 64 (λ k. raster 8 8 (f k)) (λ k. length-raster 8 8 (f k)) 4 (n / 2 % 8 * 8 + i) (n % 2 + 2 * (n / 16)) 0 (omega arith) (omega arith)
+      ∙ getD-rows 64 (λ k. raster 8 8 (f k)) (λ k. length-raster 8 8 (f k)) 4 (n / 2 % 8 * 8 + i) (n % 2 + 2 * (n / 16)) 0
+      (omega arith) (omega arith)
       ∙ getD-raster 8 8 (f (n % 2 + 2 * (n / 16))) i (n / 2 % 8) 0 p (omega arith)
     where
       place : (b r : ℕ) → 64 * b + 8 * r + i ≡ b * 64 + (r * 8 + i)
@@ -55,7 +56,8 @@ module _ (f : ℕ → ℕ → ℕ → ℕ) where
       row : m / 8 / 2 % 8 ≡ m / 16 % 8
       row = omega arith
 
-  pub woven : raster 8 32 (λ i n. getD (rows 4 (λ k. raster 8 8 (f k))) (partAt n + i) 0) ≡ raster 16 16 (λ i j. f (i / 8 + 2 * (j / 8)) (i % 8) (j % 8))
+  pub woven : raster 8 32 (λ i n. getD (rows 4 (λ k. raster 8 8 (f k))) (partAt n + i) 0)
+      ≡ raster 16 16 (λ i j. f (i / 8 + 2 * (j / 8)) (i % 8) (j % 8))
   woven =
       ext-getD 0 (raster 8 32 part) (raster 16 16 whole) (length-raster 8 32 part ∙ sym (length-raster 16 16 whole))
       (λ m h. same m (omega (arith, length-raster 8 32 part)))

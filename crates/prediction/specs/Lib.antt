@@ -1,3 +1,3 @@
 pub mod Luma
 pub mod Macroblock
-pub mod Four
+pub mod ToldFour

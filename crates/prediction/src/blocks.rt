@@ -5,17 +5,17 @@ ghost use Prim.Native.Nat.{_+_, _<_, _≤_};
 ghost use lib.IntN.{pos, negsuc, _+ℤ_};
 ghost use lib.ListN.{length, getD};
 ghost use Rattle.basis.specs.Lists.{tabulate, rows, raster};
-ghost use Rattle.record.specs.Zero.{zeroVector};
 ghost use Rattle.refusal.specs.Test.{inRange};
 ghost use Rattle.plane.specs.Plane.{planeOf};
+ghost use Rattle.plane.specs.Corner.{blockCorner};
 ghost use Rattle.plane.specs.Reference.{originInRange};
 ghost use Rattle.prediction.specs.declared.PvopMbMotion.the-variants.{FourMv};
-ghost use Rattle.prediction.specs.Luma.{lumaBlock};
-ghost use Rattle.prediction.specs.Macroblock.{blockOrigin, motionsReply};
-ghost use Rattle.prediction.specs.Four.{FourReady, partAt};
+ghost use Rattle.prediction.specs.Macroblock.{motionsReply};
+ghost use Rattle.prediction.specs.ToldFour.{FourReady, eightBlock, partAt};
 use crate::BVopSampleMode;
 use plane::Geometry;
 use plane::Point;
+use plane::Site;
 use record::MotionVector;
 use refusal::Reply;
 
@@ -26,31 +26,31 @@ fn moved(at: i32, by: usize) -> i32
     at + by as i32
 }
 
-fn block_origin(origin: Point, k: usize) -> Point
-    requires { ⌜ (originInRange origin ≡ true) × (k < 4) ⌝ }
-    ensures { λ r. ⌜ r ≡ blockOrigin origin k ⌝ }
+fn block_corner(corner: Point, k: usize) -> Point
+    requires { ⌜ (originInRange corner ≡ true) × (k < 4) ⌝ }
+    ensures { λ r. ⌜ r ≡ blockCorner corner k ⌝ }
 {
-    let x = moved(origin.x, 8 * (k % 2));
-    let y = moved(origin.y, 8 * (k / 2));
+    let x = moved(corner.x, 8 * (k % 2));
+    let y = moved(corner.y, 8 * (k / 2));
     Point { x, y }
 }
 
-// 8, for each of four blocks: the others' origins are made once the first one's is known to be in range.
+// 8, for each of four blocks: the others' corners are made once the first one's is known to be in range.
 pub fn four_reply(
     a: MotionVector,
     b: MotionVector,
     c: MotionVector,
     d: MotionVector,
-    origin: Point,
+    corner: Point,
 ) -> Reply
-    ensures { λ r. ⌜ r ≡ motionsReply (FourMv a b c d) origin ⌝ }
+    ensures { λ r. ⌜ r ≡ motionsReply (FourMv a b c d) corner ⌝ }
 {
-    match plane::motion_reply(a, origin) {
+    match plane::motion_reply(a, corner) {
         Reply::Refused(why) => Reply::Refused(why),
         Reply::Done => {
-            let last = plane::motion_reply(d, block_origin(origin, 3));
-            let third = refusal::and_then(plane::motion_reply(c, block_origin(origin, 2)), last);
-            refusal::and_then(plane::motion_reply(b, block_origin(origin, 1)), third)
+            let last = plane::motion_reply(d, block_corner(corner, 3));
+            let third = refusal::and_then(plane::motion_reply(c, block_corner(corner, 2)), last);
+            refusal::and_then(plane::motion_reply(b, block_corner(corner, 1)), third)
         }
     }
 }
@@ -61,17 +61,21 @@ fn predict_block(
     geometry: Geometry,
     mode: BVopSampleMode,
     vectors: [MotionVector; 4],
-    origin: Point,
+    corner: Point,
     k: usize,
     rounding: u8,
     out: &mut [u8],
 )
-    requires { ⌜ FourReady mode geometry (length (now samples)) vectors origin × (k < 4) × (length (now out) ≡ 64) ⌝ }
-    ensures { λ _. ⌜ now (out .exit) ≡ lumaBlock mode (planeOf (now (samples .entry)) geometry) (getD vectors k zeroVector) (blockOrigin origin k) 8 8 rounding ⌝ }
+    requires { ⌜ FourReady mode geometry (length (now samples)) vectors corner × (k < 4) × (length (now out) ≡ 64) ⌝ }
+    ensures { λ _. ⌜ now (out .exit) ≡ eightBlock mode (planeOf (now (samples .entry)) geometry) vectors corner rounding k ⌝ }
 {
     let v = vectors[k];
-    let at = block_origin(origin, k);
-    crate::predict_luma_block(samples, geometry, mode, v, at, 8, 8, rounding, out);
+    let site = Site {
+        corner: block_corner(corner, k),
+        width: 8,
+        height: 8,
+    };
+    crate::predict_luma_block(samples, geometry, mode, site, v, rounding, out);
 }
 
 // The four blocks, one after the other.
@@ -80,12 +84,12 @@ pub fn predict_four(
     geometry: Geometry,
     mode: BVopSampleMode,
     vectors: [MotionVector; 4],
-    origin: Point,
+    corner: Point,
     rounding: u8,
     out: &mut [u8],
 )
-    requires { ⌜ FourReady mode geometry (length (now samples)) vectors origin × (length (now out) ≡ 256) ⌝ }
-    ensures { λ _. ⌜ now (out .exit) ≡ rows 4 (λ k. lumaBlock mode (planeOf (now (samples .entry)) geometry) (getD vectors k zeroVector) (blockOrigin origin k) 8 8 rounding) ⌝ }
+    requires { ⌜ FourReady mode geometry (length (now samples)) vectors corner × (length (now out) ≡ 256) ⌝ }
+    ensures { λ _. ⌜ now (out .exit) ≡ rows 4 (eightBlock mode (planeOf (now (samples .entry)) geometry) vectors corner rounding) ⌝ }
 {
     for k in 0..4 {
         let from = k * 64;
@@ -95,7 +99,7 @@ pub fn predict_four(
             geometry,
             mode,
             vectors,
-            origin,
+            corner,
             k,
             rounding,
             &mut out[from..to],

@@ -14,7 +14,7 @@ use Rattle.refusal.specs.declared.Reply.the-variants.{Done}
 use Rattle.refusal.specs.Reply.{unless}
 use Rattle.refusal.specs.Test.{between, inRange, allInRange}
 use Rattle.refusal.proofs.Every.{every-at}
-use Rattle.refusal.proofs.Replies.{first-done, then-done, held, after, passed, both-done}
+use Rattle.refusal.proofs.Replies.{first-done, then-done, unless-done, after, passed, both-done}
 use Rattle.refusal.proofs.Tests.{and-left, and-right, between-low, between-high}
 use Rattle.quantise.specs.Block.{noZero, weightReply, quantiseReply, inverseReply}
 use Rattle.quantise.proofs.Signs.{size-in}
@@ -41,11 +41,11 @@ pub record Sound (fs : List ℤ) (q : ℕ) (weights : List ℕ) (n : ℕ) : Type
 module _ (q : ℕ) (first : Bool) (weights : List ℕ) (e : weightReply q first weights ≡ Done) where
   quantiser-in : between 1 31 q ≡ true
   unfolding weightReply
-  quantiser-in = held (between 1 31 q) Quantiser (unless (not first || noZero weights) Weight Done) e
+  quantiser-in = unless-done (between 1 31 q) Quantiser (unless (not first || noZero weights) Weight Done) e
 
   weights-serve : (not first || noZero weights) ≡ true
   unfolding weightReply
-  weights-serve = held (not first || noZero weights) Weight Done (after (between 1 31 q) Quantiser (unless (not first || noZero weights) Weight Done) e)
+  weights-serve = unless-done (not first || noZero weights) Weight Done (after (between 1 31 q) Quantiser (unless (not first || noZero weights) Weight Done) e)
 
   pub quantiser-low : 1 ≤ q
   quantiser-low = between-low 1 31 q quantiser-in
@@ -67,13 +67,13 @@ module _ (fs : List ℤ) (q : ℕ) (first : Bool) (weights : List ℕ) (n : ℕ)
   past-weight = then-done (weightReply q first weights) _ e
 
   sizes : long-tests ≡ true
-  sizes = held long-tests Length _ past-weight
+  sizes = unless-done long-tests Length _ past-weight
 
   pub sound : Sound fs q weights n
   sound =
       let long : length fs ≡ 64 = eqb-true _ 64 (and-left (eqb (length fs) 64) _ sizes) in
       let areas = and-right (eqb (length fs) 64) _ sizes in
-      let range = held (allInRange (negsuc 2047) (pos 2047) fs) Range Done (after long-tests Length _ past-weight) in
+      let range = unless-done (allInRange (negsuc 2047) (pos 2047) fs) Range Done (after long-tests Length _ past-weight) in
       let ranged : (i : ℕ) → i < 64 → inRange (negsuc 2047) (pos 2047) (getD fs i (pos 0)) ≡ true =
       λ i h. every-at (inRange (negsuc 2047) (pos 2047)) fs i (pos 0) range (omega arith) in
       record {
@@ -88,8 +88,8 @@ module _ (fs : List ℤ) (q : ℕ) (first : Bool) (weights : List ℕ) (n : ℕ)
 
   pub weight-some : first ≡ true → (i : ℕ) → i < 64 → 1 ≤ getD weights i 0
   weight-some t i h =
-      not-zero _
-      (every-at (λ (w : ℕ). not (eqb w 0)) weights i 0 (sym (ap (λ (b : Bool). not b || noZero weights) t) ∙ weights-serve q first weights weighed) (omega (arith, sound .weights-long)))
+      let serve = sym (ap (λ (b : Bool). not b || noZero weights) t) ∙ weights-serve q first weights weighed in
+      not-zero _ (every-at (λ (w : ℕ). not (eqb w 0)) weights i 0 serve (omega (arith, sound .weights-long)))
 
 -- 64 coefficients in range are not turned back where quantiser and weights are not
 pub quantise-ready : (fs : List ℤ) (q : ℕ) (first : Bool) (weights : List ℕ) → weightReply q first weights ≡ Done
@@ -111,10 +111,10 @@ pub record SoundInverse (levels : List ℤ) (q n : ℕ) : Type 0 where
 pub sound-inverse : (levels : List ℤ) (q n : ℕ) → inverseReply levels q n ≡ Done → SoundInverse levels q n
 unfolding inverseReply
 sound-inverse levels q n e =
-    let scale = held (between 1 31 q) Quantiser _ e in
+    let scale = unless-done (between 1 31 q) Quantiser _ e in
     let past = after (between 1 31 q) Quantiser _ e in
-    let sizes = held (eqb (length levels) 64 && eqb n 64) Length _ past in
-    let range = held (allInRange (negsuc 2046) (pos 2047) levels) Range Done (after (eqb (length levels) 64 && eqb n 64) Length _ past) in
+    let sizes = unless-done (eqb (length levels) 64 && eqb n 64) Length _ past in
+    let range = unless-done (allInRange (negsuc 2046) (pos 2047) levels) Range Done (after (eqb (length levels) 64 && eqb n 64) Length _ past) in
     let long : length levels ≡ 64 = eqb-true _ 64 (and-left (eqb (length levels) 64) (eqb n 64) sizes) in
     record {
       low = between-low 1 31 q scale;

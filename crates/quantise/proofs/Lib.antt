@@ -1,4 +1,7 @@
-pub mod Signs
+-- Laws that several proofs cite.
+mod Signs
+mod Storing
+-- And what the crates above cite.
 pub mod Accepted
 pub mod Near
 pub mod Ranges

@@ -1,53 +1,29 @@
 -- Signs and sizes of coefficients and levels: moving toward 0, dividing toward 0, and cutting. Assumes nothing.
 use Prim.Native.Nat.{ℕ, zero, suc, _+_, _*_, _-_, _/_, _%_, _≤_, _<_, _^_, min}
-use native.Mathlib.Nat.{zero-add, zero-div, div-le-self, le-trans}
+use native.Mathlib.Nat.{zero-div, div-le-self, le-trans}
 use native.Mathlib.Omega.{arith}
 use mathlib.Core.Bool.{Bool, true, false, cond}
 use mathlib.Core.Path.{_≡_, refl, sym, ap, ap₂, _∙_, subst}
-use lib.Dec.{T, eqb, lit≤}
-use lib.IntN.{ℤ, pos, negsuc, negℤ, natAbs, _+ℤ_, _-ℤ_, _*ℤ_, +ℤ-idl}
-use lib.Signed.{ltZ, quotZ, nonNeg}
+use lib.Dec.{eqb, lit≤}
+use lib.IntN.{ℤ, pos, negsuc, negℤ, natAbs, _-ℤ_, _*ℤ_, +ℤ-idl}
+use lib.Signed.{ltZ, quotZ}
 use mir.Syntax.{w32}
-use mir.Val.{SFits, Fits, toZ, ofZ}
+use mir.Val.{SFits, toZ, ofZ}
 use mir.ValLaws.{toZ-ofZ, toZ-pos}
 use Rattle.basis.specs.Parts.{above, below}
 use Rattle.basis.proofs.Bounds.{product-le}
 use Rattle.basis.proofs.Case.{either}
-use Rattle.basis.proofs.Parts.{ext, sides, size-parts, above-add, below-add, above-sub, below-sub, above-mul, below-mul, above-neg, below-neg, parts-fit, difference-high}
+use Rattle.basis.proofs.Cut.{cut-low, cut-high, cut-none}
+use Rattle.basis.proofs.Parts.{ext, sides, size-parts, above-sub, below-sub, above-mul, below-mul, above-neg, below-neg, parts-fit, difference-high}
 use Rattle.basis.proofs.Signed.{lt-true, lt-false}
 use Rattle.refusal.specs.Test.{inRange}
 use Rattle.refusal.proofs.Tests.{range-low, range-high}
-use Rattle.quantise.specs.Level.{signed, cutTo, inverseSize}
+use Rattle.basis.specs.Cut.{cutTo}
+use Rattle.quantise.specs.Level.{signed, inverseSize}
 
 -- a size from a range
 pub size-in : (a b : ℕ) (z : ℤ) → inRange (negsuc a) (pos b) z ≡ true → b ≤ suc a → natAbs z ≤ suc a
 size-in a b z e h = omega (arith, size-parts z, range-low (negsuc a) (pos b) z e, range-high (negsuc a) (pos b) z e, sides z)
-
--- a number that is cut at its lower end, at its upper end, and not at all
-module _ (low high z : ℤ) where
-  pub cut-low : above z + below low ≤ above low + below z → above low + below high ≤ above high + below low → cutTo low high z ≡ low
-  cut-low h k = by (ltZ z low) refl (ltZ high z) refl
-    where
-      by : (t : Bool) → ltZ z low ≡ t → (u : Bool) → ltZ high z ≡ u → cond t low (cond u high z) ≡ low
-      by true e u f = refl
-      by false e true f = absurd (omega (arith, lt-true high z f))
-      by false e false f = let g = lt-false z low e in ext z low (omega (arith, sides z, sides low)) (omega (arith, sides z, sides low))
-
-  pub cut-high : above high + below z ≤ above z + below high → above low + below high ≤ above high + below low → cutTo low high z ≡ high
-  cut-high h k = by (ltZ z low) refl (ltZ high z) refl
-    where
-      by : (t : Bool) → ltZ z low ≡ t → (u : Bool) → ltZ high z ≡ u → cond t low (cond u high z) ≡ high
-      by true e u f = absurd (omega (arith, lt-true z low e))
-      by false e true f = refl
-      by false e false f = let g = lt-false high z f in ext z high (omega (arith, sides z, sides high)) (omega (arith, sides z, sides high))
-
-  pub cut-none : above low + below z ≤ above z + below low → above z + below high ≤ above high + below z → cutTo low high z ≡ z
-  cut-none h k = by (ltZ z low) refl (ltZ high z) refl
-    where
-      by : (t : Bool) → ltZ z low ≡ t → (u : Bool) → ltZ high z ≡ u → cond t low (cond u high z) ≡ z
-      by true e u f = absurd (omega (arith, lt-true z low e))
-      by false e true f = absurd (omega (arith, lt-true high z f))
-      by false e false f = refl
 
 -- x less what of it lies within d on either side: x moved toward 0 by d
 pub toward-is : (x : ℤ) (d : ℕ) → x -ℤ cutTo (negℤ (pos d)) (pos d) x ≡ signed x (natAbs x - d)
@@ -55,7 +31,10 @@ toward-is (pos a) d =
     let up = above-neg (pos d) in
     let down = below-neg (pos d) in
     either _ a d
-    (λ k. ap (λ (z : ℤ). pos a -ℤ z) (cut-none (negℤ (pos d)) (pos d) (pos a) (omega arith) (omega arith)) ∙ difference-high a a (omega arith) ∙ ap pos (none k))
+    (λ k.
+    ap (λ (z : ℤ). pos a -ℤ z) (cut-none (negℤ (pos d)) (pos d) (pos a) (omega arith) (omega arith))
+    ∙ difference-high a a (omega arith)
+    ∙ ap pos (none k))
     (λ k. ap (λ (z : ℤ). pos a -ℤ z) (cut-high (negℤ (pos d)) (pos d) (pos a) (omega arith) (omega arith)) ∙ difference-high a d (omega arith))
   where
     none : a ≤ d → a - a ≡ a - d
@@ -111,11 +90,7 @@ sixteen-sign (negsuc a) m = ap (λ (z : ℤ). signed z m) (below-negative (suc a
         less : n ≡ suc n - 1
         less = omega arith
 
--- a sign put on, and taken off
-pub minus-size : (x : ℤ) → ltZ x (pos 0) ≡ true → pos 0 -ℤ x ≡ pos (natAbs x)
-minus-size (pos a) t = absurd (omega (arith, lt-true (pos a) (pos 0) t))
-minus-size (negsuc a) t = ap pos (zero-add (suc a))
-
+-- a sign put on
 pub minus-signed : (f : ℤ) (m : ℕ) → ltZ f (pos 0) ≡ true → pos 0 -ℤ pos m ≡ signed f m
 minus-signed (pos a) m t = absurd (omega (arith, lt-true (pos a) (pos 0) t))
 minus-signed (negsuc a) m t = +ℤ-idl (negℤ (pos m))
@@ -131,31 +106,41 @@ module _ (m : ℕ) (h : m ≤ 126945) where
   pub minus-fits : SFits w32 (pos 0 -ℤ toZ w32 m)
   minus-fits = subst (SFits w32) (sym (minus-read ∙ minus-signed (negsuc 0) m refl)) (signed-fits (negsuc 0) m h)
 
--- a number that is not negative, cast to an unsigned one
-pub cast-up : (z : ℤ) (m : ℕ) → z ≡ pos m → m ≤ 32768 → T (nonNeg z) × Fits w32 (natAbs z)
-cast-up z m e h = subst (λ (v : ℤ). T (nonNeg v) × Fits w32 (natAbs v)) (sym e) (tt, record { fits = omega arith })
-
-pub not-below : (x : ℤ) → ltZ x (pos 0) ≡ false → x ≡ pos (natAbs x)
-not-below (pos a) t = refl
-not-below (negsuc a) t = absurd (omega (arith, lt-false (negsuc a) (pos 0) t))
-
--- a level's size is cut
-pub signed-cut : (f : ℤ) (m : ℕ) → cutTo (negsuc 2046) (pos 2047) (signed f m) ≡ signed f (min m 2047)
-signed-cut f m = either _ m 2047 (λ k. kept f k ∙ ap (signed f) (below-cut k)) (λ k. cut f k ∙ ap (signed f) (above-cut k))
+-- a size with a sign is cut at its end
+pub cut-above : (low : ℤ) (n most : ℕ) → above low ≡ 0 → cutTo low (pos most) (pos n) ≡ pos (min n most)
+cut-above low n most none =
+    either _ n most
+    (λ k. cut-none low (pos most) (pos n) (omega arith) (omega arith) ∙ ap pos (whole k))
+    (λ k. cut-high low (pos most) (pos n) (omega arith) (omega arith) ∙ ap pos (part k))
   where
-    below-cut : m ≤ 2047 → m ≡ min m 2047
-    below-cut k = omega arith
+    whole : n ≤ most → n ≡ min n most
+    whole k = omega arith
 
-    above-cut : 2047 < m → 2047 ≡ min m 2047
-    above-cut k = omega arith
+    part : most < n → most ≡ min n most
+    part k = omega arith
 
-    kept : (f : ℤ) → m ≤ 2047 → cutTo (negsuc 2046) (pos 2047) (signed f m) ≡ signed f m
-    kept (pos a) k = cut-none (negsuc 2046) (pos 2047) (pos m) (omega arith) (omega arith)
-    kept (negsuc a) k = cut-none (negsuc 2046) (pos 2047) (negℤ (pos m)) (omega (arith, below-neg (pos m))) (omega (arith, above-neg (pos m)))
+pub cut-below : (high : ℤ) (n most : ℕ) → below high ≡ 0 → cutTo (negℤ (pos most)) high (negℤ (pos n)) ≡ negℤ (pos (min n most))
+cut-below high n most none =
+    let low = negℤ (pos most) in
+    let z = negℤ (pos n) in
+    let a = above-neg (pos most) in
+    let b = below-neg (pos most) in
+    let c = above-neg (pos n) in
+    let d = below-neg (pos n) in
+    either _ n most
+    (λ k. cut-none low high z (omega arith) (omega arith) ∙ ap (λ (m : ℕ). negℤ (pos m)) (whole k))
+    (λ k. cut-low low high z (omega arith) (omega arith) ∙ ap (λ (m : ℕ). negℤ (pos m)) (part k))
+  where
+    whole : n ≤ most → n ≡ min n most
+    whole k = omega arith
 
-    cut : (f : ℤ) → 2047 < m → cutTo (negsuc 2046) (pos 2047) (signed f m) ≡ signed f 2047
-    cut (pos a) k = cut-high (negsuc 2046) (pos 2047) (pos m) (omega arith) (omega arith)
-    cut (negsuc a) k = cut-low (negsuc 2046) (pos 2047) (negℤ (pos m)) (omega (arith, above-neg (pos m), below-neg (pos m))) (omega arith)
+    part : most < n → most ≡ min n most
+    part k = omega arith
+
+-- a level is cut
+pub signed-cut : (f : ℤ) (m : ℕ) → cutTo (negsuc 2046) (pos 2047) (signed f m) ≡ signed f (min m 2047)
+signed-cut (pos a) m = cut-above (negsuc 2046) m 2047 refl
+signed-cut (negsuc a) m = cut-below (pos 2047) m 2047 refl
 
 -- the quotient of what `toward_zero` gives, as the machine reads it
 module _ (x t : ℤ) (m d : ℕ) (e : t ≡ signed x m) (small : m ≤ 32768) (most : d < 2 ^ 31) where

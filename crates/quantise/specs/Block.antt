@@ -12,17 +12,30 @@ use Rattle.refusal.specs.declared.Reply.{Reply}
 use Rattle.refusal.specs.declared.Reply.the-variants.{Done}
 use Rattle.refusal.specs.Reply.{unless, andThen}
 use Rattle.refusal.specs.Test.{between, every, allInRange}
-use Rattle.quantise.specs.Level.{levelOf, levelByWeight, inverseOf}
+use Rattle.quantise.specs.Level.{levelByQuantiser, levelByWeight, inverseByQuantiser}
 
 -- the level at place i, by the first method where `first` is true
 abbrev pub levelAt : Bool → ℕ → List ℕ → List ℤ → ℕ → ℤ
-levelAt first q weights fs i = cond first (levelByWeight (getD weights i 0) q (getD fs i (pos 0))) (levelOf q (getD fs i (pos 0)))
+levelAt first q weights fs i =
+    cond first (levelByWeight (getD weights i 0) q (getD fs i (pos 0))) (levelByQuantiser q (getD fs i (pos 0)))
 
 unfoldable pub blockLevels : Bool → ℕ → List ℕ → List ℤ → List ℤ
 blockLevels first q weights fs = tabulate 64 (levelAt first q weights fs)
 
-unfoldable pub blockInverse : ℕ → List ℤ → List ℤ
-blockInverse q levels = tabulate 64 (λ i. inverseOf q (getD levels i (pos 0)))
+-- a method's inverse: what a level at a place stands for
+abbrev pub Inverse : Type 0
+Inverse = ℕ → ℤ → ℤ
+
+-- that of the second method is the same at every place
+abbrev pub secondInverse : ℕ → Inverse
+secondInverse q i l = inverseByQuantiser q l
+
+-- what the level at place i stands for
+abbrev pub inverseAt : Inverse → List ℤ → ℕ → ℤ
+inverseAt inverse levels i = inverse i (getD levels i (pos 0))
+
+unfoldable pub blockInverse : Inverse → List ℤ → List ℤ
+blockInverse inverse levels = tabulate 64 (inverseAt inverse levels)
 
 -- the first method wants weights that are not 0
 abbrev pub noZero : List ℕ → Bool

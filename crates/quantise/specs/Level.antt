@@ -3,29 +3,32 @@ use Prim.Native.Nat.{ℕ, _+_, _*_, _-_, _/_, _%_}
 use mathlib.Core.Bool.{cond}
 use lib.Dec.{eqb}
 use lib.IntN.{ℤ, pos, negsuc, negℤ, natAbs}
-use lib.Signed.{ltZ}
+use Rattle.basis.specs.Cut.{cutTo}
 
 -- m with the sign of f
 abbrev pub signed : ℤ → ℕ → ℤ
 signed (pos a) m = pos m
 signed (negsuc a) m = negℤ (pos m)
 
--- z cut to low..high
-abbrev pub cutTo : ℤ → ℤ → ℤ → ℤ
-cutTo low high z = cond (ltZ z low) low (cond (ltZ high z) high z)
+-- the second method, before sign and cut: max(|f| - floor(q/2), 0) / 2q without its fraction
+abbrev pub quotientByQuantiser : ℕ → ℤ → ℕ
+quotientByQuantiser q f = (natAbs f - q / 2) / (2 * q)
 
--- the second method: max(|f| - floor(q/2), 0) / 2q without its fraction, with the sign of f, cut to -2,047..2,047
-unfoldable pub levelOf : ℕ → ℤ → ℤ
-levelOf q f = cutTo (negsuc 2046) (pos 2047) (signed f ((natAbs f - q / 2) / (2 * q)))
+-- with the sign of f, cut to -2,047..2,047
+unfoldable pub levelByQuantiser : ℕ → ℤ → ℤ
+levelByQuantiser q f = cutTo (negsuc 2046) (pos 2047) (signed f (quotientByQuantiser q f))
 
 -- the first method, d being w q: max(16|f| - d, 0) / 2d
+abbrev pub quotientByWeight : ℕ → ℕ → ℤ → ℕ
+quotientByWeight w q f = (16 * natAbs f - w * q) / (2 * (w * q))
+
 unfoldable pub levelByWeight : ℕ → ℕ → ℤ → ℤ
-levelByWeight w q f = cutTo (negsuc 2046) (pos 2047) (signed f ((16 * natAbs f - w * q) / (2 * (w * q))))
+levelByWeight w q f = cutTo (negsuc 2046) (pos 2047) (signed f (quotientByWeight w q f))
 
 -- q (2l + 1), less 1 for even q
 abbrev pub inverseSize : ℕ → ℕ → ℕ
 inverseSize q l = cond (eqb (q % 2) 0) (q * (2 * l + 1) - 1) (q * (2 * l + 1))
 
 -- the inverse of the second method: 0 gives 0, else the size above with the level's sign, saturated to -2,048..2,047
-unfoldable pub inverseOf : ℕ → ℤ → ℤ
-inverseOf q l = cond (eqb (natAbs l) 0) (pos 0) (cutTo (negsuc 2047) (pos 2047) (signed l (inverseSize q (natAbs l))))
+unfoldable pub inverseByQuantiser : ℕ → ℤ → ℤ
+inverseByQuantiser q l = cond (eqb (natAbs l) 0) (pos 0) (cutTo (negsuc 2047) (pos 2047) (signed l (inverseSize q (natAbs l))))

@@ -1,3 +1,6 @@
+-- To be believed.
 pub mod Level
 pub mod Block
 pub mod Near
+-- Told.
+pub mod Told

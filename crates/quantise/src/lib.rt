@@ -4,7 +4,7 @@ ghost use mathlib.Core.Bool.{true, false, not, _||_};
 ghost use lib.ListN.{length};
 ghost use Rattle.refusal.specs.declared.Reply.the-variants.{Done};
 ghost use Rattle.refusal.specs.Reply.{done};
-ghost use Rattle.quantise.specs.Block.{noZero, blockLevels, blockInverse, weightReply, quantiseReply, inverseReply};
+ghost use Rattle.quantise.specs.Block.{noZero, blockLevels, secondInverse, blockInverse, weightReply, quantiseReply, inverseReply};
 ghost use Rattle.quantise.specs.Near.{NearAll};
 use refusal::Refusal;
 use refusal::Reply;
@@ -129,7 +129,7 @@ fn inverse_reply(levels: &[i32], quantiser: u32, area: usize) -> Reply
 
 fn inverse_ready(levels: &[i32], quantiser: u32, out: &mut [i32])
     requires { ⌜ inverseReply (now levels) quantiser (length (now out)) ≡ Done ⌝ }
-    ensures { λ _. ⌜ now (out .exit) ≡ blockInverse quantiser (now (levels .entry)) ⌝ }
+    ensures { λ _. ⌜ now (out .exit) ≡ blockInverse (secondInverse quantiser) (now (levels .entry)) ⌝ }
 {
     for i in 0..64usize {
         out[i] = level::inverse_quant_method2_coef(levels[i], quantiser);
@@ -139,7 +139,7 @@ fn inverse_ready(levels: &[i32], quantiser: u32, out: &mut [i32])
 // What 64 levels of the second method stand for: 10, 12, 13.
 pub fn inverse_block(levels: &[i32], quantiser: u32, out: &mut [i32]) -> Reply
     ensures { λ r. ⌜ r ≡ inverseReply (now (levels .entry)) quantiser (length (now (out .entry))) ⌝ }
-    ensures { λ r. ⌜ now (out .exit) ≡ done r (blockInverse quantiser (now (levels .entry))) (now (out .entry)) ⌝ }
+    ensures { λ r. ⌜ now (out .exit) ≡ done r (blockInverse (secondInverse quantiser) (now (levels .entry))) (now (out .entry)) ⌝ }
 {
     let reply = inverse_reply(levels, quantiser, out.len());
     match reply {

@@ -1,18 +1,15 @@
 -- A call that nothing turns back. Assumes nothing.
 use Prim.Native.Nat.{ℕ}
-use mathlib.Core.Bool.{Bool, true}
-use mathlib.Core.Path.{_≡_, ap, _∙_}
-use Rattle.refusal.specs.declared.Refusal.the-variants.{BitsPerPixel}
+use mathlib.Core.Path.{_≡_}
 use Rattle.refusal.specs.declared.Reply.the-variants.{Done}
-use Rattle.refusal.specs.Reply.{unless}
-use Rattle.refusal.specs.Test.{between}
+use Rattle.refusal.proofs.Replies.{both-done}
 use Rattle.record.specs.declared.MotionVector.{MotionVector}
 use Rattle.plane.specs.declared.Geometry.{Geometry}
-use Rattle.plane.specs.declared.Point.{Point}
+use Rattle.plane.specs.declared.Site.{Site}
 use Rattle.plane.specs.Reference.{blockReply}
-use Rattle.quarter_sample.specs.Block.{quarterReply}
+use Rattle.quarter_sample.specs.Block.{bitsReply, quarterReply}
 
-pub quarter-done : (bpp : ℕ) (g : Geometry) (bytes : ℕ) (v : MotionVector) (o : Point) (w h area : ℕ) → between 1 8 bpp ≡ true → blockReply g bytes v o w h area ≡ Done
-    → quarterReply bpp g bytes v o w h area ≡ Done
+pub quarter-done : (bpp : ℕ) (g : Geometry) (bytes : ℕ) (v : MotionVector) (site : Site) (area : ℕ)
+    → bitsReply bpp ≡ Done → blockReply g bytes v site area ≡ Done → quarterReply bpp g bytes v site area ≡ Done
 unfolding quarterReply
-quarter-done bpp g bytes v o w h area e f = ap (λ (t : Bool). unless t BitsPerPixel (blockReply g bytes v o w h area)) e ∙ f
+quarter-done bpp g bytes v site area e f = both-done e f

@@ -5,4 +5,5 @@ pub mod Lines
 pub mod Buffers
 pub mod Rules
 pub mod Blocks
+pub mod Sixteen
 pub mod Whole

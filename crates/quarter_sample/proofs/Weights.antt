@@ -19,10 +19,17 @@ module _ (s0 s1 s2 s3 s4 s5 s6 s7 : ℕ) where
   abbrev pub down : ℕ
   down = 6 * (s2 + s5) + (s0 + s7)
 
-  weighted-parts : Diff (weighted s0 s1 s2 s3 s4 s5 s6 s7) (0 * s0 + 24 * s1 + 0 * s2 + 160 * s3 + 160 * s4 + 0 * s5 + 24 * s6 + 0 * s7) (8 * s0 + 0 * s1 + 48 * s2 + 0 * s3 + 0 * s4 + 48 * s5 + 0 * s6 + 8 * s7)
+  weighted-parts : Diff (weighted s0 s1 s2 s3 s4 s5 s6 s7) (0 * s0 + 24 * s1 + 0 * s2 + 160 * s3 + 160 * s4 + 0 * s5 + 24 * s6 + 0 * s7)
+      (8 * s0 + 0 * s1 + 48 * s2 + 0 * s3 + 0 * s4 + 48 * s5 + 0 * s6 + 8 * s7)
   unfolding weighted
   weighted-parts =
-      diff-add (diff-add (diff-add (diff-add (diff-add (diff-add (diff-add (diff-mul (negsuc 7) s0) (diff-mul (pos 24) s1)) (diff-mul (negsuc 47) s2)) (diff-mul (pos 160) s3)) (diff-mul (pos 160) s4)) (diff-mul (negsuc 47) s5)) (diff-mul (pos 24) s6)) (diff-mul (negsuc 7) s7)
+      let d1 = diff-add (diff-mul (negsuc 7) s0) (diff-mul (pos 24) s1) in
+      let d2 = diff-add d1 (diff-mul (negsuc 47) s2) in
+      let d3 = diff-add d2 (diff-mul (pos 160) s3) in
+      let d4 = diff-add d3 (diff-mul (pos 160) s4) in
+      let d5 = diff-add d4 (diff-mul (negsuc 47) s5) in
+      let d6 = diff-add d5 (diff-mul (pos 24) s6) in
+      diff-add d6 (diff-mul (negsuc 7) s7)
 
   rounded : (rc : ℕ) → ℤ
   rounded rc = weighted s0 s1 s2 s3 s4 s5 s6 s7 +ℤ (pos 128 -ℤ pos rc)
@@ -36,7 +43,7 @@ module _ (s0 s1 s2 s3 s4 s5 s6 s7 : ℕ) where
     unfolding fir rounded
     fir-above = ap (λ (n : ℕ). min n max) (above-quot (rounded rc) 256)
 
-    -- toward zero or down, the division gives the same after the cut
+    -- For the reader: toward zero or down, the division gives the same after the cut
     pub fir-down : fir rc max s0 s1 s2 s3 s4 s5 s6 s7 ≡ cut max (shrZ (weighted s0 s1 s2 s3 s4 s5 s6 s7 +ℤ (pos 128 -ℤ pos rc)) 256)
     unfolding rounded
     fir-down = fir-above ∙ ap (λ (n : ℕ). min n max) (sym (above-shr (rounded rc) 256))

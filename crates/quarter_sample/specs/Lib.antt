@@ -2,4 +2,4 @@ pub mod Split
 pub mod Filter
 pub mod Places
 pub mod Block
-pub mod Passes
+pub mod ToldPasses

@@ -5,7 +5,7 @@ ghost use lib.IntN.{pos, _-ℤ_};
 ghost use lib.ListN.{length};
 ghost use Rattle.basis.specs.Lists.{tabulate};
 ghost use Rattle.quarter_sample.specs.Filter.{mirror, fir, average, largest};
-ghost use Rattle.quarter_sample.specs.Passes.{mix, mixRows};
+ghost use Rattle.quarter_sample.specs.ToldPasses.{mix, mixRows, TapsFit};
 
 // The place that index u - 3 of a side of `size` reads.
 pub fn mirror_index(u: usize, size: usize) -> usize
@@ -58,11 +58,11 @@ fn average(x: u8, y: u8, rc: u8, max: u8) -> u8
     requires { ⌜ rc ≤ 1 ⌝ }
     ensures { λ r. ⌜ r ≡ average rc max x y ⌝ }
 {
-    let v = (x as u16 + y as u16 + 1 - rc as u16) / 2;
-    if (max as u16) < v {
+    let mean = (x as u16 + y as u16 + 1 - rc as u16) / 2;
+    if (max as u16) < mean {
         return max;
     }
-    v as u8
+    mean as u8
 }
 
 // The sample at a fraction of the way from one sample to the next, of which `half` is the filtered middle.
@@ -78,7 +78,8 @@ fn at_fraction(fraction: u8, here: u8, half: u8, next: u8, rc: u8, max: u8) -> u
     }
 }
 
-// Eight rows, one a tap, give a row at the fraction.
+// Eight rows, one a tap, give a row at the fraction. What the loop rounds by and cuts to comes as numbers of their own and not in a
+// struct: read out of one, the loop's sums are arranged otherwise, and rows of 8 are done by fours.
 pub fn filter_taps(
     t0: &[u8],
     t1: &[u8],
@@ -94,8 +95,10 @@ pub fn filter_taps(
     out: &mut [u8],
 )
     requires { ⌜ (fraction < 4) × (rc ≤ 1) ⌝ }
-    requires { ⌜ (length (now t0) ≡ length (now out)) × (length (now t1) ≡ length (now out)) × (length (now t2) ≡ length (now out)) × (length (now t3) ≡ length (now out)) × (length (now t4) ≡ length (now out)) × (length (now t5) ≡ length (now out)) × (length (now t6) ≡ length (now out)) × (length (now t7) ≡ length (now out)) ⌝ }
-    ensures { λ _. ⌜ now (out .exit) ≡ tabulate (length (now (out .entry))) (mixRows rc max fraction (now (t0 .entry)) (now (t1 .entry)) (now (t2 .entry)) (now (t3 .entry)) (now (t4 .entry)) (now (t5 .entry)) (now (t6 .entry)) (now (t7 .entry))) ⌝ }
+    requires { ⌜ TapsFit (now t0) (now t1) (now t2) (now t3) (now t4) (now t5) (now t6) (now t7) (length (now out)) ⌝ }
+    ensures { λ _. ⌜ now (out .exit) ≡ tabulate (length (now (out .entry)))
+        (mixRows rc max fraction (now (t0 .entry)) (now (t1 .entry)) (now (t2 .entry)) (now (t3 .entry))
+        (now (t4 .entry)) (now (t5 .entry)) (now (t6 .entry)) (now (t7 .entry))) ⌝ }
 {
     for i in 0..out.len() {
         let half = fir(

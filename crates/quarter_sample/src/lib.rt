@@ -1,18 +1,18 @@
 // Quarter-sample interpolation of luma blocks (ISO/IEC 14496-2, 7.6.2.2).
 ghost use mathlib.Core.Path.{_≡_};
 ghost use mathlib.Core.Bool.{true};
-ghost use Prim.Native.Nat.{_+_, _*_, _≤_};
+ghost use Prim.Native.Nat.{_+_, _*_};
 ghost use lib.IntN.{pos, negsuc};
 ghost use lib.ListN.{length};
 ghost use Rattle.refusal.specs.Reply.{done};
 ghost use Rattle.refusal.specs.Test.{inRange};
 ghost use Rattle.plane.specs.Plane.{planeOf};
-ghost use Rattle.plane.specs.Reference.{blockReply};
-ghost use Rattle.quarter_sample.specs.Block.{quarterBlock, quarterReply};
-ghost use Rattle.quarter_sample.specs.Passes.{startOf};
+ghost use Rattle.quarter_sample.specs.Block.{quarterBlock, bitsReply, quarterReply};
+ghost use Rattle.quarter_sample.specs.ToldPasses.{startOf, Interpolable};
 ghost use Rattle.quarter_sample.specs.Split.{splitQuarter};
 use plane::Geometry;
 use plane::Point;
+use plane::Site;
 use record::MotionVector;
 use refusal::Refusal;
 use refusal::Reply;
@@ -36,22 +36,42 @@ pub fn split_quarter_pel(mv: i32) -> QuarterPel
     }
 }
 
+// 3
+pub fn bits_reply(bits_per_pixel: u32) -> Reply
+    ensures { λ r. ⌜ r ≡ bitsReply «bits_per_pixel» ⌝ }
+{
+    refusal::unless(
+        refusal::between(1, 8, bits_per_pixel as usize),
+        Refusal::BitsPerPixel,
+        Reply::Done,
+    )
+}
+
+// What is wanted of a block: how wide and how high it is, the rounding control that its filters and averages are lowered by, and the
+// largest sample that they are cut to.
+struct Wanted {
+    width: usize,
+    height: usize,
+    rc: u8,
+    max: u8,
+}
+
 // Where the copied block starts, and which of the sixteen places within it.
 struct Start {
     at: Point,
     fractions: u8,
 }
 
-fn start_of(vector: MotionVector, origin: Point) -> Start
-    requires { ⌜ (inRange (negsuc 4095) (pos 4096) (origin .x) ≡ true) × (inRange (negsuc 4095) (pos 4096) (origin .y) ≡ true) ⌝ }
+fn start_of(corner: Point, vector: MotionVector) -> Start
+    requires { ⌜ (inRange (negsuc 4095) (pos 4096) (corner .x) ≡ true) × (inRange (negsuc 4095) (pos 4096) (corner .y) ≡ true) ⌝ }
     requires { ⌜ (inRange (negsuc 2047) (pos 2047) (vector .x) ≡ true) × (inRange (negsuc 2047) (pos 2047) (vector .y) ≡ true) ⌝ }
-    ensures { λ r. ⌜ r ≡ startOf vector origin ⌝ }
+    ensures { λ r. ⌜ r ≡ startOf corner vector ⌝ }
 {
     let across = split_quarter_pel(vector.x);
     let down = split_quarter_pel(vector.y);
     let at = Point {
-        x: origin.x + across.whole,
-        y: origin.y + down.whole,
+        x: corner.x + across.whole,
+        y: corner.y + down.whole,
     };
     Start {
         at,
@@ -63,55 +83,56 @@ fn start_of(vector: MotionVector, origin: Point) -> Start
 fn interpolate_within(
     samples: &[u8],
     geometry: Geometry,
+    site: Site,
     vector: MotionVector,
-    origin: Point,
-    block_w: usize,
-    block_h: usize,
     rounding: u8,
     bits_per_pixel: u32,
     buffer: &mut [u8],
     out: &mut [u8],
 )
-    requires { ⌜ (1 ≤ «bits_per_pixel») × («bits_per_pixel» ≤ 8) × (blockReply geometry (length (now samples)) vector origin «block_w» «block_h» (length (now out)) ≡ Reply.Done) × (length (now buffer) ≡ («block_w» + 1) * («block_h» + 1)) ⌝ }
-    ensures { λ _. ⌜ now (out .exit) ≡ quarterBlock (planeOf (now (samples .entry)) geometry) vector origin «block_w» «block_h» rounding «bits_per_pixel» ⌝ }
+    requires { ⌜ Interpolable geometry (length (now samples)) site vector «bits_per_pixel» (length (now out)) ⌝ }
+    requires { ⌜ length (now buffer) ≡ (site .width + 1) * (site .height + 1) ⌝ }
+    ensures { λ _. ⌜ now (out .exit) ≡ quarterBlock (planeOf (now (samples .entry)) geometry) site vector rounding «bits_per_pixel» ⌝ }
 {
-    let start = start_of(vector, origin);
+    let corner = site.corner;
+    let start = start_of(corner, vector);
     let at = start.at;
-    plane::copy_block(samples, geometry, at, block_w + 1, block_h + 1, buffer);
-    passes::interpolate_place(
+    plane::copy_block(
+        samples,
+        geometry,
+        at,
+        site.width + 1,
+        site.height + 1,
         buffer,
-        block_w,
-        block_h,
-        start.fractions,
-        rounding % 2,
-        filter::largest_sample(bits_per_pixel),
-        out,
     );
+    let wanted = Wanted {
+        width: site.width,
+        height: site.height,
+        rc: rounding % 2,
+        max: filter::largest_sample(bits_per_pixel),
+    };
+    passes::interpolate_place(buffer, wanted, start.fractions, out);
 }
 
 fn interpolate(
     samples: &[u8],
     geometry: Geometry,
+    site: Site,
     vector: MotionVector,
-    origin: Point,
-    block_w: usize,
-    block_h: usize,
     rounding: u8,
     bits_per_pixel: u32,
     out: &mut [u8],
 )
-    requires { ⌜ (1 ≤ «bits_per_pixel») × («bits_per_pixel» ≤ 8) × (blockReply geometry (length (now samples)) vector origin «block_w» «block_h» (length (now out)) ≡ Reply.Done) ⌝ }
-    ensures { λ _. ⌜ now (out .exit) ≡ quarterBlock (planeOf (now (samples .entry)) geometry) vector origin «block_w» «block_h» rounding «bits_per_pixel» ⌝ }
+    requires { ⌜ Interpolable geometry (length (now samples)) site vector «bits_per_pixel» (length (now out)) ⌝ }
+    ensures { λ _. ⌜ now (out .exit) ≡ quarterBlock (planeOf (now (samples .entry)) geometry) site vector rounding «bits_per_pixel» ⌝ }
 {
     let mut block = [0u8; 289];
-    let count = (block_w + 1) * (block_h + 1);
+    let count = (site.width + 1) * (site.height + 1);
     interpolate_within(
         samples,
         geometry,
+        site,
         vector,
-        origin,
-        block_w,
-        block_h,
         rounding,
         bits_per_pixel,
         &mut block[..count],
@@ -119,45 +140,30 @@ fn interpolate(
     );
 }
 
-// The prediction of a block at an origin, by a vector in quarter samples: 3, 4, 5, 8, 12, 14.
+// The prediction of a block of sides 8 or 16 by a vector in quarter samples: 3, 4, 5, 8, 12, 14.
 pub fn interpolate_block_qpel_into(
     samples: &[u8],
     geometry: Geometry,
+    site: Site,
     vector: MotionVector,
-    origin: Point,
-    block_w: usize,
-    block_h: usize,
     rounding: u8,
     bits_per_pixel: u32,
     out: &mut [u8],
 ) -> Reply
-    ensures { λ r. ⌜ r ≡ quarterReply «bits_per_pixel» geometry (length (now (samples .entry))) vector origin «block_w» «block_h» (length (now (out .entry))) ⌝ }
-    ensures { λ r. ⌜ now (out .exit) ≡ done r (quarterBlock (planeOf (now (samples .entry)) geometry) vector origin «block_w» «block_h» rounding «bits_per_pixel») (now (out .entry)) ⌝ }
+    ensures { λ r. ⌜ r ≡ quarterReply «bits_per_pixel» geometry (length (now (samples .entry))) vector site (length (now (out .entry))) ⌝ }
+    ensures { λ r. ⌜ now (out .exit) ≡ done r
+        (quarterBlock (planeOf (now (samples .entry)) geometry) site vector rounding «bits_per_pixel») (now (out .entry)) ⌝ }
 {
-    let block = plane::block_reply(
-        geometry,
-        samples.len(),
-        vector,
-        origin,
-        block_w,
-        block_h,
-        out.len(),
-    );
-    let reply = refusal::unless(
-        refusal::between(1, 8, bits_per_pixel as usize),
-        Refusal::BitsPerPixel,
-        block,
-    );
+    let block = plane::block_reply(geometry, samples.len(), vector, site, out.len());
+    let reply = refusal::and_then(bits_reply(bits_per_pixel), block);
     match reply {
         Reply::Refused(why) => Reply::Refused(why),
         Reply::Done => {
             interpolate(
                 samples,
                 geometry,
+                site,
                 vector,
-                origin,
-                block_w,
-                block_h,
                 rounding,
                 bits_per_pixel,
                 out,

@@ -1,11 +1,12 @@
 // The two passes over a copied block of w + 1 columns and h + 1 rows, whose rows follow each other directly.
 ghost use mathlib.Core.Path.{_≡_};
-ghost use Prim.Native.Nat.{ℕ, _+_, _*_, _<_, _≤_};
+ghost use Prim.Native.Nat.{_+_, _*_, _<_, _≤_};
 ghost use lib.IntN.{pos, _-ℤ_};
 ghost use lib.ListN.{length, getD};
-ghost use Rattle.basis.specs.Lists.{tabulate, raster};
-ghost use Rattle.quarter_sample.specs.Places.{place};
-ghost use Rattle.quarter_sample.specs.Passes.{step, stepBoth, reflected, rowLine, columnLine, held};
+ghost use Rattle.basis.specs.Lists.{tabulate};
+ghost use Rattle.quarter_sample.specs.ToldPasses.{step, reflected, rowLine, columnLine, rowsAt, columnsAt, bothAt, placeAt, wholeAt};
+ghost use Rattle.quarter_sample.specs.ToldPasses.{LineNeeds, RowsNeeds, TapNeeds, ColumnRowNeeds, ColumnsNeeds, PlaceNeeds};
+use crate::Wanted;
 use crate::filter;
 
 fn part(s: &[u8], at: usize, n: usize) -> &[u8]
@@ -50,14 +51,13 @@ fn filter_row(
     block: &[u8],
     n: usize,
     j: usize,
+    wanted: Wanted,
     fraction: u8,
-    rc: u8,
-    max: u8,
     line: &mut [u8],
     out: &mut [u8],
 )
-    requires { ⌜ (3 ≤ n) × (n ≤ 17) × (j * n + n ≤ length (now block)) × (fraction < 4) × (rc ≤ 1) × (length (now line) ≡ n + 6) × (length (now out) + 1 ≡ n) ⌝ }
-    ensures { λ _. ⌜ now (out .exit) ≡ tabulate (length (now (out .entry))) (step rc max fraction (rowLine (now (block .entry)) n j)) ⌝ }
+    requires { ⌜ LineNeeds (length (now block)) n j wanted fraction (length (now line)) (length (now out)) ⌝ }
+    ensures { λ _. ⌜ now (out .exit) ≡ tabulate (length (now (out .entry))) (step (wanted .rc) (wanted .max) fraction (rowLine (now (block .entry)) n j)) ⌝ }
 {
     let at = j * n;
     let end = at + n;
@@ -73,37 +73,29 @@ fn filter_row(
         part(line, 6, w),
         part(line, 7, w),
         fraction,
-        rc,
-        max,
+        wanted.rc,
+        wanted.max,
         out,
     );
 }
 
-// The first h rows of a block with rows of w + 1 samples, at the horizontal fraction.
-fn filter_rows(
-    block: &[u8],
-    w: usize,
-    h: usize,
-    fraction: u8,
-    rc: u8,
-    max: u8,
-    line: &mut [u8],
-    out: &mut [u8],
-)
-    requires { ⌜ (2 ≤ w) × (w ≤ 16) × (h ≤ 17) × (h * (w + 1) ≤ length (now block)) × (fraction < 4) × (rc ≤ 1) × (length (now line) ≡ w + 7) × (length (now out) ≡ h * w) ⌝ }
-    ensures { λ _. ⌜ now (out .exit) ≡ raster w h (λ (i j : ℕ). step rc max fraction (rowLine (now (block .entry)) (w + 1) j) i) ⌝ }
+// The first rows of a block whose rows have one sample more than is wanted, at the horizontal fraction.
+fn filter_rows(block: &[u8], wanted: Wanted, fraction: u8, line: &mut [u8], out: &mut [u8])
+    requires { ⌜ RowsNeeds (length (now block)) wanted fraction (length (now out)) × (length (now line) ≡ wanted .width + 7) ⌝ }
+    ensures { λ _. ⌜ now (out .exit) ≡ rowsAt wanted fraction (now (block .entry)) ⌝ }
 {
+    let w = wanted.width;
     let n = w + 1;
-    for j in 0..h {
+    for j in 0..wanted.height {
         let from = j * w;
         let to = from + w;
-        filter_row(block, n, j, fraction, rc, max, line, &mut out[from..to]);
+        filter_row(block, n, j, wanted, fraction, line, &mut out[from..to]);
     }
 }
 
 // The first w samples of the row that index u - 3 of `size` rows reads.
 fn tap_row(src: &[u8], stride: usize, w: usize, u: usize, size: usize) -> &[u8]
-    requires { ⌜ (w ≤ stride) × (stride ≤ 17) × (3 ≤ size) × (size ≤ 17) × (u < size + 6) × (size * stride ≤ length (now src)) ⌝ }
+    requires { ⌜ TapNeeds (length (now src)) stride w u size ⌝ }
     ensures { λ r. ⌜ now r ≡ tabulate w (λ i. columnLine (now (src .entry)) stride size i (pos u -ℤ pos 3)) ⌝ }
 {
     let at = filter::mirror_index(u, size) * stride;
@@ -117,13 +109,13 @@ fn filter_column_row(
     stride: usize,
     size: usize,
     j: usize,
+    wanted: Wanted,
     fraction: u8,
-    rc: u8,
-    max: u8,
     out: &mut [u8],
 )
-    requires { ⌜ (length (now out) ≤ stride) × (stride ≤ 17) × (3 ≤ size) × (size ≤ 17) × (j + 1 < size) × (size * stride ≤ length (now src)) × (fraction < 4) × (rc ≤ 1) ⌝ }
-    ensures { λ _. ⌜ now (out .exit) ≡ tabulate (length (now (out .entry))) (λ i. step rc max fraction (columnLine (now (src .entry)) stride size i) j) ⌝ }
+    requires { ⌜ ColumnRowNeeds (length (now src)) stride size j wanted fraction (length (now out)) ⌝ }
+    ensures { λ _. ⌜ now (out .exit) ≡ tabulate (length (now (out .entry)))
+        (λ i. step (wanted .rc) (wanted .max) fraction (columnLine (now (src .entry)) stride size i) j) ⌝ }
 {
     let w = out.len();
     filter::filter_taps(
@@ -136,78 +128,70 @@ fn filter_column_row(
         tap_row(src, stride, w, j + 6, size),
         tap_row(src, stride, w, j + 7, size),
         fraction,
-        rc,
-        max,
+        wanted.rc,
+        wanted.max,
         out,
     );
 }
 
-// h rows of w samples, out of h + 1 rows of `stride` samples, at the vertical fraction.
-fn column_pass(
-    src: &[u8],
-    stride: usize,
-    w: usize,
-    h: usize,
-    fraction: u8,
-    rc: u8,
-    max: u8,
-    out: &mut [u8],
-)
-    requires { ⌜ (w ≤ stride) × (stride ≤ 17) × (2 ≤ h) × (h ≤ 16) × ((h + 1) * stride ≤ length (now src)) × (fraction < 4) × (rc ≤ 1) × (length (now out) ≡ h * w) ⌝ }
-    ensures { λ _. ⌜ now (out .exit) ≡ raster w h (λ (i j : ℕ). step rc max fraction (columnLine (now (src .entry)) stride (h + 1) i) j) ⌝ }
+// The wanted block, out of one row more of `stride` samples, at the vertical fraction.
+fn column_pass(src: &[u8], stride: usize, wanted: Wanted, fraction: u8, out: &mut [u8])
+    requires { ⌜ ColumnsNeeds (length (now src)) stride wanted fraction (length (now out)) ⌝ }
+    ensures { λ _. ⌜ now (out .exit) ≡ columnsAt wanted fraction (now (src .entry)) stride ⌝ }
 {
-    let size = h + 1;
-    for j in 0..h {
+    let w = wanted.width;
+    let size = wanted.height + 1;
+    for j in 0..wanted.height {
         let from = j * w;
         let to = from + w;
-        filter_column_row(src, stride, size, j, fraction, rc, max, &mut out[from..to]);
+        filter_column_row(src, stride, size, j, wanted, fraction, &mut out[from..to]);
     }
 }
 
-// The first h rows of a block, at the horizontal fraction.
-fn row_pass(block: &[u8], w: usize, h: usize, fraction: u8, rc: u8, max: u8, out: &mut [u8])
-    requires { ⌜ (2 ≤ w) × (w ≤ 16) × (h ≤ 17) × (h * (w + 1) ≤ length (now block)) × (fraction < 4) × (rc ≤ 1) × (length (now out) ≡ h * w) ⌝ }
-    ensures { λ _. ⌜ now (out .exit) ≡ raster w h (λ (i j : ℕ). step rc max fraction (rowLine (now (block .entry)) (w + 1) j) i) ⌝ }
+// The first rows of a block, at the horizontal fraction.
+fn row_pass(block: &[u8], wanted: Wanted, fraction: u8, out: &mut [u8])
+    requires { ⌜ RowsNeeds (length (now block)) wanted fraction (length (now out)) ⌝ }
+    ensures { λ _. ⌜ now (out .exit) ≡ rowsAt wanted fraction (now (block .entry)) ⌝ }
 {
     let mut line = [0u8; 23];
-    let count = w + 7;
-    filter_rows(block, w, h, fraction, rc, max, &mut line[..count], out);
+    let count = wanted.width + 7;
+    filter_rows(block, wanted, fraction, &mut line[..count], out);
 }
 
 // Both passes: the rows into the middle buffer, and its columns out of it.
-fn pass_through(
-    block: &[u8],
-    w: usize,
-    h: usize,
-    fx: u8,
-    fy: u8,
-    rc: u8,
-    max: u8,
-    middle: &mut [u8],
-    out: &mut [u8],
-)
-    requires { ⌜ (2 ≤ w) × (w ≤ 16) × (2 ≤ h) × (h ≤ 16) × (length (now block) ≡ (h + 1) * (w + 1)) × (fx < 4) × (fy < 4) × (rc ≤ 1) × (length (now middle) ≡ (h + 1) * w) × (length (now out) ≡ h * w) ⌝ }
-    ensures { λ _. ⌜ now (out .exit) ≡ raster w h (stepBoth rc max fx fy (held (now (block .entry)) (w + 1) (h + 1))) ⌝ }
+fn pass_through(block: &[u8], wanted: Wanted, fx: u8, fy: u8, middle: &mut [u8], out: &mut [u8])
+    requires { ⌜ PlaceNeeds (length (now block)) wanted (length (now out)) ⌝ }
+    requires { ⌜ (fx < 4) × (fy < 4) × (length (now middle) ≡ (wanted .height + 1) * wanted .width) ⌝ }
+    ensures { λ _. ⌜ now (out .exit) ≡ bothAt wanted fx fy (now (block .entry)) ⌝ }
 {
-    row_pass(block, w, h + 1, fx, rc, max, middle);
-    column_pass(middle, w, w, h, fy, rc, max, out);
+    let w = wanted.width;
+    let taller = Wanted {
+        width: w,
+        height: wanted.height + 1,
+        rc: wanted.rc,
+        max: wanted.max,
+    };
+    row_pass(block, taller, fx, middle);
+    column_pass(middle, w, wanted, fy, out);
 }
 
-fn both_passes(block: &[u8], w: usize, h: usize, fx: u8, fy: u8, rc: u8, max: u8, out: &mut [u8])
-    requires { ⌜ (2 ≤ w) × (w ≤ 16) × (2 ≤ h) × (h ≤ 16) × (length (now block) ≡ (h + 1) * (w + 1)) × (fx < 4) × (fy < 4) × (rc ≤ 1) × (length (now out) ≡ h * w) ⌝ }
-    ensures { λ _. ⌜ now (out .exit) ≡ raster w h (stepBoth rc max fx fy (held (now (block .entry)) (w + 1) (h + 1))) ⌝ }
+fn both_passes(block: &[u8], wanted: Wanted, fx: u8, fy: u8, out: &mut [u8])
+    requires { ⌜ PlaceNeeds (length (now block)) wanted (length (now out)) × (fx < 4) × (fy < 4) ⌝ }
+    ensures { λ _. ⌜ now (out .exit) ≡ bothAt wanted fx fy (now (block .entry)) ⌝ }
 {
     let mut middle = [0u8; 272];
-    let count = (h + 1) * w;
-    pass_through(block, w, h, fx, fy, rc, max, &mut middle[..count], out);
+    let count = (wanted.height + 1) * wanted.width;
+    pass_through(block, wanted, fx, fy, &mut middle[..count], out);
 }
 
-// The whole samples: the first w of each of the first h rows.
-fn copy_rows(block: &[u8], w: usize, h: usize, out: &mut [u8])
-    requires { ⌜ (w ≤ 16) × (h * (w + 1) ≤ length (now block)) × (length (now out) ≡ h * w) ⌝ }
-    ensures { λ _. ⌜ now (out .exit) ≡ raster w h (λ (i j : ℕ). getD (now (block .entry)) (j * (w + 1) + i) 0) ⌝ }
+// The whole samples, uncut: as many of the first rows and columns as are wanted.
+fn copy_rows(block: &[u8], wanted: Wanted, out: &mut [u8])
+    requires { ⌜ (wanted .width ≤ 16) × (wanted .height * (wanted .width + 1) ≤ length (now block)) ⌝ }
+    requires { ⌜ length (now out) ≡ wanted .height * wanted .width ⌝ }
+    ensures { λ _. ⌜ now (out .exit) ≡ wholeAt wanted (now (block .entry)) ⌝ }
 {
-    for j in 0..h {
+    let w = wanted.width;
+    for j in 0..wanted.height {
         let at = j * (w + 1);
         let from = j * w;
         let to = from + w;
@@ -215,35 +199,28 @@ fn copy_rows(block: &[u8], w: usize, h: usize, out: &mut [u8])
     }
 }
 
-// A copied block's samples at one of the sixteen places, which is fx + 4 fy.
-pub fn interpolate_place(
-    block: &[u8],
-    w: usize,
-    h: usize,
-    fractions: u8,
-    rc: u8,
-    max: u8,
-    out: &mut [u8],
-)
-    requires { ⌜ (2 ≤ w) × (w ≤ 16) × (2 ≤ h) × (h ≤ 16) × (length (now block) ≡ (h + 1) * (w + 1)) × (fractions < 16) × (rc ≤ 1) × (length (now out) ≡ h * w) ⌝ }
-    ensures { λ _. ⌜ now (out .exit) ≡ raster w h (place rc max (held (now (block .entry)) (w + 1) (h + 1)) fractions) ⌝ }
+// A copied block's samples at one of the sixteen places, which is fx + 4 fy. The fractions are written out, so that each arm's loops
+// are compiled for their own.
+pub fn interpolate_place(block: &[u8], wanted: Wanted, fractions: u8, out: &mut [u8])
+    requires { ⌜ PlaceNeeds (length (now block)) wanted (length (now out)) × (fractions < 16) ⌝ }
+    ensures { λ _. ⌜ now (out .exit) ≡ placeAt wanted fractions (now (block .entry)) ⌝ }
 {
     match fractions {
-        0 => copy_rows(block, w, h, out),
-        1 => row_pass(block, w, h, 1, rc, max, out),
-        2 => row_pass(block, w, h, 2, rc, max, out),
-        3 => row_pass(block, w, h, 3, rc, max, out),
-        4 => column_pass(block, w + 1, w, h, 1, rc, max, out),
-        5 => both_passes(block, w, h, 1, 1, rc, max, out),
-        6 => both_passes(block, w, h, 2, 1, rc, max, out),
-        7 => both_passes(block, w, h, 3, 1, rc, max, out),
-        8 => column_pass(block, w + 1, w, h, 2, rc, max, out),
-        9 => both_passes(block, w, h, 1, 2, rc, max, out),
-        10 => both_passes(block, w, h, 2, 2, rc, max, out),
-        11 => both_passes(block, w, h, 3, 2, rc, max, out),
-        12 => column_pass(block, w + 1, w, h, 3, rc, max, out),
-        13 => both_passes(block, w, h, 1, 3, rc, max, out),
-        14 => both_passes(block, w, h, 2, 3, rc, max, out),
-        _ => both_passes(block, w, h, 3, 3, rc, max, out),
+        0 => copy_rows(block, wanted, out),
+        1 => row_pass(block, wanted, 1, out),
+        2 => row_pass(block, wanted, 2, out),
+        3 => row_pass(block, wanted, 3, out),
+        4 => column_pass(block, wanted.width + 1, wanted, 1, out),
+        5 => both_passes(block, wanted, 1, 1, out),
+        6 => both_passes(block, wanted, 2, 1, out),
+        7 => both_passes(block, wanted, 3, 1, out),
+        8 => column_pass(block, wanted.width + 1, wanted, 2, out),
+        9 => both_passes(block, wanted, 1, 2, out),
+        10 => both_passes(block, wanted, 2, 2, out),
+        11 => both_passes(block, wanted, 3, 2, out),
+        12 => column_pass(block, wanted.width + 1, wanted, 3, out),
+        13 => both_passes(block, wanted, 1, 3, out),
+        14 => both_passes(block, wanted, 2, 3, out),
+        _ => both_passes(block, wanted, 3, 3, out),
     }
 }

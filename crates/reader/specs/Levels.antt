@@ -1,5 +1,5 @@
 -- The reader's 384 levels, in six blocks (four luma, Cb, Cr), and what they stand for (document 01, "The reader of demand 3").
-use Prim.Native.Nat.{ℕ}
+use Prim.Native.Nat.{ℕ, _%_}
 use mathlib.Core.Bool.{cond}
 use mathlib.Core.List.{List}
 use lib.IntN.{ℤ, pos}
@@ -7,7 +7,7 @@ use lib.ListN.{getD, replicate}
 use Rattle.basis.specs.Lists.{tabulate, rows}
 use Rattle.record.specs.Pattern.{isCoded}
 use Rattle.scan.specs.Read.{readBlock}
-use Rattle.quantise.specs.Level.{inverseOf}
+use Rattle.quantise.specs.Block.{Inverse, secondInverse}
 use Rattle.reader.specs.Handed.{Handed, partsOf}
 
 -- block b's levels, by rows: 0 where its bit is clear; elsewhere `readBlock` counts from 0, and each event of the block's area, up to and
@@ -21,6 +21,10 @@ readPart h b =
 unfoldable pub readLevels : Handed → List ℤ
 readLevels h = rows 6 (readPart h)
 
--- each through the inverse of the second method
+-- each through a method's inverse, at its place in its block
+abbrev pub readBy : Inverse → Handed → List ℤ
+readBy inverse h = tabulate 384 (λ i. inverse (i % 64) (getD (readLevels h) i (pos 0)))
+
+-- which is the second's
 unfoldable pub readInverse : Handed → List ℤ
-readInverse h = tabulate 384 (λ i. inverseOf (h .quantiser) (getD (readLevels h) i (pos 0)))
+readInverse h = readBy (secondInverse (h .quantiser)) h

@@ -22,7 +22,8 @@ and-true false = refl
 
 module _ {A : Type 0} (p : A → Bool) where
   -- b is the test of one entry more
-  pub every-more : (l : List A) (i : ℕ) (d : A) (a b : Bool) → i < length l → b ≡ (a && p (getD l i d)) → every p l ≡ (a && every p (drop i l)) → every p l ≡ (b && every p (drop (i + 1) l))
+  pub every-more : (l : List A) (i : ℕ) (d : A) (a b : Bool) → i < length l → b ≡ (a && p (getD l i d))
+      → every p l ≡ (a && every p (drop i l)) → every p l ≡ (b && every p (drop (i + 1) l))
   every-more l i d a b h e w =
       w
       ∙ ap (λ (x : List A). a && every p x) (drop-cons l i d h)
@@ -45,5 +46,6 @@ module _ {A : Type 0} (p : A → Bool) where
   every-is (x ∷ l) d h = both (h 0 (omega arith)) (every-is l d (λ i b. h (suc i) (omega arith)))
 
 -- n numbers are in a range where each is
-pub all-in-range : (low high : ℤ) (n : ℕ) (l : List ℤ) → length l ≡ n → ((i : ℕ) → i < n → inRange low high (getD l i (pos 0)) ≡ true) → allInRange low high l ≡ true
+pub all-in-range : (low high : ℤ) (n : ℕ) (l : List ℤ) → length l ≡ n
+    → ((i : ℕ) → i < n → inRange low high (getD l i (pos 0)) ≡ true) → allInRange low high l ≡ true
 all-in-range low high n l e h = every-is (inRange low high) l (pos 0) (λ i b. h i (omega arith))

@@ -8,8 +8,10 @@ use lib.Signed.{leZ, mag}
 use mir.Syntax.{w32}
 use mir.Val.{toZ, ofZ}
 use borrow.Author.Tests.{leb-true}
+use Rattle.basis.specs.Cut.{cutTo}
 use Rattle.basis.specs.Parts.{above, below}
 use Rattle.basis.proofs.Case.{both}
+use Rattle.basis.proofs.Cut.{cut-none, cut-least, cut-most}
 use Rattle.basis.proofs.Signed.{le-true, le-is, of-bits}
 use Rattle.refusal.specs.Test.{between, inRange}
 
@@ -45,3 +47,7 @@ range-is low high z h k = both (le-is low z h) (le-is z high k)
 -- of a signed field, which is read back from its bits
 pub range-read : (low high z : ℤ) → mag z < 2 ^ 31 → inRange low high z ≡ true → inRange low high (toZ w32 (ofZ w32 z)) ≡ true
 range-read low high z h e = ap (inRange low high) (of-bits z h) ∙ e
+
+-- a number cut to a range lies in it, where its ends are in order
+pub cut-in : (low high z : ℤ) → above low + below high ≤ above high + below low → inRange low high (cutTo low high z) ≡ true
+cut-in low high z h = both (cut-least low high z h) (cut-most low high z h)

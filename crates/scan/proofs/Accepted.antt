@@ -12,27 +12,29 @@ use Rattle.refusal.specs.declared.Refusal.the-variants.{Length, Range, Choice}
 use Rattle.refusal.specs.declared.Reply.the-variants.{Done}
 use Rattle.refusal.specs.Test.{between, inRange, allInRange}
 use Rattle.refusal.proofs.Every.{all-in-range}
-use Rattle.refusal.proofs.Replies.{held, passed}
+use Rattle.refusal.proofs.Replies.{unless-done, passed}
 use Rattle.refusal.proofs.Tests.{and-left, and-right}
 use Rattle.scan.specs.Reply.{scanReply, eventsReply}
+use Rattle.scan.specs.Told.{SixtyFours}
 
 pub scan-lengths : (levels : List ℤ) (s n : ℕ) → scanReply levels s n ≡ Done → (length levels ≡ 64) × (n ≡ 64)
 unfolding scanReply
 scan-lengths levels s n e =
-    let sizes = held (eqb (length levels) 64 && eqb n 64) Length _ e in
+    let sizes = unless-done (eqb (length levels) 64 && eqb n 64) Length _ e in
     (eqb-true _ 64 (and-left (eqb (length levels) 64) (eqb n 64) sizes), eqb-true _ 64 (and-right (eqb (length levels) 64) (eqb n 64) sizes))
 
-pub events-lengths : (levels : List ℤ) (a b c : ℕ) → eventsReply levels a b c ≡ Done → (length levels ≡ 64) × (a ≡ 64) × (b ≡ 64) × (c ≡ 64)
+pub events-lengths : (levels : List ℤ) (a b c : ℕ) → eventsReply levels a b c ≡ Done → SixtyFours (length levels) a b c
 unfolding eventsReply
 events-lengths levels a b c e =
-    let sizes = held (eqb (length levels) 64 && (eqb a 64 && (eqb b 64 && eqb c 64))) Length _ e in
+    let sizes = unless-done (eqb (length levels) 64 && (eqb a 64 && (eqb b 64 && eqb c 64))) Length _ e in
     let areas = and-right (eqb (length levels) 64) (eqb a 64 && (eqb b 64 && eqb c 64)) sizes in
-    let others = and-right (eqb a 64) (eqb b 64 && eqb c 64) areas in (
-      eqb-true _ 64 (and-left (eqb (length levels) 64) (eqb a 64 && (eqb b 64 && eqb c 64)) sizes),
-      eqb-true _ 64 (and-left (eqb a 64) (eqb b 64 && eqb c 64) areas),
-      eqb-true _ 64 (and-left (eqb b 64) (eqb c 64) others),
-      eqb-true _ 64 (and-right (eqb b 64) (eqb c 64) others),
-    )
+    let others = and-right (eqb a 64) (eqb b 64 && eqb c 64) areas in
+    record {
+      levels-long = eqb-true _ 64 (and-left (eqb (length levels) 64) (eqb a 64 && (eqb b 64 && eqb c 64)) sizes);
+      lasts-long = eqb-true _ 64 (and-left (eqb a 64) (eqb b 64 && eqb c 64) areas);
+      runs-long = eqb-true _ 64 (and-left (eqb b 64) (eqb c 64) others);
+      values-long = eqb-true _ 64 (and-right (eqb b 64) (eqb c 64) others);
+    }
 
 -- 64 levels in range are not turned back
 module _ (levels : List ℤ) (long : length levels ≡ 64) (small : (i : ℕ) → i < 64 → inRange (negsuc 2046) (pos 2047) (getD levels i (pos 0)) ≡ true) where

@@ -13,23 +13,23 @@ use lib.Seq.{getD-set-same, getD-set-other}
 use mir.Facts.{eqb-yes, ltb-yes, and-yes}
 use borrow.Author.Tests.{eqb-true, eqb-false}
 use Rattle.basis.proofs.Lists.{length-tabulate, getD-tabulate, tabulate-cong, tabulate-same}
-use Rattle.scan.specs.Grid.{altHorizontal, altVertical, zigzag, gridOf, entryAt, placeOf, scanned, unscanned, Permutes, Returns}
+use Rattle.scan.specs.Grid.{altHorizontal, altVertical, zigzag, gridOf, entryAt, scanPlaceOf, scanned, unscanned, Permutes, Returns}
 use Rattle.basis.proofs.Table.{upto, upto-at}
 
 -- the tests: an entry is below 64 and is found where it stands, and each of 0..63 is found where it is the entry
 abbrev inward : List (List ℕ) → ℕ → Bool
-inward g p = ltb (entryAt g p) 64 && eqb (placeOf g (entryAt g p)) p
+inward g p = ltb (entryAt g p) 64 && eqb (scanPlaceOf g (entryAt g p)) p
 
 abbrev outward : List (List ℕ) → ℕ → Bool
-outward g k = ltb (placeOf g k) 64 && eqb (entryAt g (placeOf g k)) k
+outward g k = ltb (scanPlaceOf g k) 64 && eqb (entryAt g (scanPlaceOf g k)) k
 
 permuted : (g : List (List ℕ)) → T (upto (inward g) 64) → T (upto (outward g) 64) → Permutes g
 permuted g t u =
     record {
-      entry-below = λ p h. ltb-yes (and-yes (ltb (entryAt g p) 64) (eqb (placeOf g (entryAt g p)) p) (upto-at (inward g) 64 t p h) .0);
-      place-below = λ k h. ltb-yes (and-yes (ltb (placeOf g k) 64) (eqb (entryAt g (placeOf g k)) k) (upto-at (outward g) 64 u k h) .0);
-      there = λ p h. eqb-yes (and-yes (ltb (entryAt g p) 64) (eqb (placeOf g (entryAt g p)) p) (upto-at (inward g) 64 t p h) .1);
-      back = λ k h. eqb-yes (and-yes (ltb (placeOf g k) 64) (eqb (entryAt g (placeOf g k)) k) (upto-at (outward g) 64 u k h) .1);
+      entry-below = λ p h. ltb-yes (and-yes (ltb (entryAt g p) 64) (eqb (scanPlaceOf g (entryAt g p)) p) (upto-at (inward g) 64 t p h) .0);
+      place-below = λ k h. ltb-yes (and-yes (ltb (scanPlaceOf g k) 64) (eqb (entryAt g (scanPlaceOf g k)) k) (upto-at (outward g) 64 u k h) .0);
+      there = λ p h. eqb-yes (and-yes (ltb (entryAt g p) 64) (eqb (scanPlaceOf g (entryAt g p)) p) (upto-at (inward g) 64 t p h) .1);
+      back = λ k h. eqb-yes (and-yes (ltb (scanPlaceOf g k) 64) (eqb (entryAt g (scanPlaceOf g k)) k) (upto-at (outward g) 64 u k h) .1);
     }
 
 horizontal : Permutes altHorizontal
@@ -74,7 +74,7 @@ module _ {g : List (List ℕ)} (w : Permutes g) {xs out : List ℤ} {p : ℕ} (s
       }
     where
       apart : (j : ℕ) → j < 64 → (j ≡ p → ⊥) → entryAt g j ≢ entryAt g p
-      apart j l n e = n (sym (w .there j l) ∙ ap (placeOf g) e ∙ w .there p h)
+      apart j l n e = n (sym (w .there j l) ∙ ap (scanPlaceOf g) e ∙ w .there p h)
 
       below : (j : ℕ) → j < p + 1 → (t : Bool) → eqb j p ≡ t → getD (set out (entryAt g p) (getD xs p (pos 0))) (entryAt g j) (pos 0) ≡ getD xs j (pos 0)
       below j l true e =
@@ -91,12 +91,12 @@ module _ {g : List (List ℕ)} (w : Permutes g) {xs out : List ℤ} {p : ℕ} (s
   unfolding scanned
   scatter-all h =
       sym (tabulate-same 64 out (pos 0) (s .long))
-      ∙ tabulate-cong 64 (λ k. getD out k (pos 0)) (λ k. getD xs (placeOf g k) (pos 0))
-      (λ k l. ap (λ (m : ℕ). getD out m (pos 0)) (sym (w .back k l)) ∙ s .stored (placeOf g k) (omega (arith, w .place-below k l)))
+      ∙ tabulate-cong 64 (λ k. getD out k (pos 0)) (λ k. getD xs (scanPlaceOf g k) (pos 0))
+      (λ k l. ap (λ (m : ℕ). getD out m (pos 0)) (sym (w .back k l)) ∙ s .stored (scanPlaceOf g k) (omega (arith, w .place-below k l)))
 
 pub length-scanned : (g : List (List ℕ)) (levels : List ℤ) → length (scanned g levels) ≡ 64
 unfolding scanned
-length-scanned g levels = length-tabulate 64 (λ k. getD levels (placeOf g k) (pos 0))
+length-scanned g levels = length-tabulate 64 (λ k. getD levels (scanPlaceOf g k) (pos 0))
 
 -- what holds of each of 64 levels holds of each in scan order
 pub scanned-each : (s : ℕ) (levels : List ℤ) (p : ℤ → Bool) → ((i : ℕ) → i < 64 → p (getD levels i (pos 0)) ≡ true)
@@ -104,7 +104,7 @@ pub scanned-each : (s : ℕ) (levels : List ℤ) (p : ℤ → Bool) → ((i : �
 unfolding scanned
 scanned-each s levels p each k h =
     let g = gridOf s in
-    ap p (getD-tabulate 64 (λ k. getD levels (placeOf g k) (pos 0)) k (pos 0) h) ∙ each (placeOf g k) (permutes s .place-below k h)
+    ap p (getD-tabulate 64 (λ k. getD levels (scanPlaceOf g k) (pos 0)) k (pos 0) h) ∙ each (scanPlaceOf g k) (permutes s .place-below k h)
 
 -- scan and inverse scan undo each other
 pub returns : (s : ℕ) → Returns s
@@ -115,10 +115,14 @@ returns s =
     record {
       by-rows = λ levels e.
           tabulate-cong 64 (λ p. getD (scanned g levels) (entryAt g p) (pos 0)) (λ p. getD levels p (pos 0))
-          (λ p h. getD-tabulate 64 (λ k. getD levels (placeOf g k) (pos 0)) (entryAt g p) (pos 0) (w .entry-below p h) ∙ ap (λ (j : ℕ). getD levels j (pos 0)) (w .there p h))
+          (λ p h.
+          getD-tabulate 64 (λ k. getD levels (scanPlaceOf g k) (pos 0)) (entryAt g p) (pos 0) (w .entry-below p h)
+          ∙ ap (λ (j : ℕ). getD levels j (pos 0)) (w .there p h))
           ∙ tabulate-same 64 levels (pos 0) e;
       by-scan = λ levels e.
-          tabulate-cong 64 (λ k. getD (unscanned g levels) (placeOf g k) (pos 0)) (λ k. getD levels k (pos 0))
-          (λ k h. getD-tabulate 64 (λ p. getD levels (entryAt g p) (pos 0)) (placeOf g k) (pos 0) (w .place-below k h) ∙ ap (λ (j : ℕ). getD levels j (pos 0)) (w .back k h))
+          tabulate-cong 64 (λ k. getD (unscanned g levels) (scanPlaceOf g k) (pos 0)) (λ k. getD levels k (pos 0))
+          (λ k h.
+          getD-tabulate 64 (λ p. getD levels (entryAt g p) (pos 0)) (scanPlaceOf g k) (pos 0) (w .place-below k h)
+          ∙ ap (λ (j : ℕ). getD levels j (pos 0)) (w .back k h))
           ∙ tabulate-same 64 levels (pos 0) e;
     }

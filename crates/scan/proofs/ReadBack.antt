@@ -13,7 +13,7 @@ use Rattle.basis.proofs.Case.{then, else}
 use Rattle.basis.proofs.Lists.{tabulate-cong, tabulate-const}
 use Rattle.scan.specs.Event.{Event, isZero, eventsAfter, eventsOf, marks, area, lastsArea, runsArea, levelsArea}
 use Rattle.scan.specs.Read.{readFrom, readEvents, ReadsBack, BlockReadsBack}
-use Rattle.scan.specs.Grid.{gridOf, entryAt, placeOf, scanned, unscanned}
+use Rattle.scan.specs.Grid.{gridOf, entryAt, scanPlaceOf, scanned, unscanned}
 use Rattle.scan.proofs.Grids.{length-scanned, permutes, returns}
 
 abbrev zeros : ℕ → List ℤ
@@ -69,12 +69,16 @@ module _ (a b : List ℕ) (d : List ℤ) where
   reads : List Event → ℕ → List ℤ → List ℤ
   reads es n block = readFrom n (marks (length es) ++ a) (runsOf es ++ b) (valuesOf es ++ d) block
 
-  back : (xs : List ℤ) (r : ℕ) (pre : List ℤ) → (eventsAfter r xs ≡ [] → ⊥) → reads (eventsAfter r xs) (length pre) (pre ++ zeros (r + length xs)) ≡ pre ++ (zeros r ++ xs)
+  -- after what was read before and a run of r zeros, the events of xs put xs there
+  abbrev PutBack : List ℤ → ℕ → List ℤ → Type 0
+  PutBack xs r pre = reads (eventsAfter r xs) (length pre) (pre ++ zeros (r + length xs)) ≡ pre ++ (zeros r ++ xs)
+
+  back : (xs : List ℤ) (r : ℕ) (pre : List ℤ) → (eventsAfter r xs ≡ [] → ⊥) → PutBack xs r pre
   unfolding reads
   back [] r pre some = absurd (some refl)
   back (x ∷ xs) r pre some = by (λ r pre some. back xs r pre some) (isZero x) refl
     where
-      by : ((r : ℕ) (pre : List ℤ) → (eventsAfter r xs ≡ [] → ⊥) → reads (eventsAfter r xs) (length pre) (pre ++ zeros (r + length xs)) ≡ pre ++ (zeros r ++ xs)) → (t : Bool) → isZero x ≡ t → reads (eventsAfter r (x ∷ xs)) (length pre) (pre ++ zeros (r + suc (length xs))) ≡ pre ++ (zeros r ++ (x ∷ xs))
+      by : ((r : ℕ) (pre : List ℤ) → (eventsAfter r xs ≡ [] → ⊥) → PutBack xs r pre) → (t : Bool) → isZero x ≡ t → PutBack (x ∷ xs) r pre
       by less true z =
           ap (λ (es : List Event). reads es (length pre) (pre ++ zeros (r + suc (length xs)))) (skip r x xs z)
           ∙ ap (λ (n : ℕ). reads (eventsAfter (suc r) xs) (length pre) (pre ++ zeros n)) more
@@ -93,17 +97,20 @@ module _ (a b : List ℕ) (d : List ℤ) where
               (length-append (pre ++ zeros r) (x ∷ [])
               ∙ ap (λ (n : ℕ). n + 1) (length-append pre (zeros r) ∙ ap (λ (n : ℕ). length pre + n) (length-replicate r (pos 0))))
 
-          rest : (l : List Event) → eventsAfter 0 xs ≡ l → reads (record { run = r; level = x } ∷ l) (length pre) (pre ++ zeros (r + suc (length xs))) ≡ pre ++ (zeros r ++ (x ∷ xs))
+          rest : (l : List Event) → eventsAfter 0 xs ≡ l
+              → reads (record { run = r; level = x } ∷ l) (length pre) (pre ++ zeros (r + suc (length xs))) ≡ pre ++ (zeros r ++ (x ∷ xs))
           rest [] e =
               put pre r (length xs) x
               ∙ append-assoc pre (zeros r) (x ∷ zeros (length xs))
               ∙ ap (λ (l : List ℤ). pre ++ (zeros r ++ (x ∷ l))) (sym (all-zero 0 xs e))
           rest (f ∷ l) e =
-              ap (λ (block : List ℤ). reads (f ∷ l) (length pre + r + 1) block) (put pre r (length xs) x ∙ sym (append-snoc (pre ++ zeros r) x (zeros (length xs))))
-              ∙ ap (λ (n : ℕ). reads (f ∷ l) n (((pre ++ zeros r) ++ (x ∷ [])) ++ zeros (length xs))) long
-              ∙ ap (λ (es : List Event). reads es (length ((pre ++ zeros r) ++ (x ∷ []))) (((pre ++ zeros r) ++ (x ∷ [])) ++ zeros (length xs))) (sym e)
-              ∙ ap (λ (n : ℕ). reads (eventsAfter 0 xs) (length ((pre ++ zeros r) ++ (x ∷ []))) (((pre ++ zeros r) ++ (x ∷ [])) ++ zeros n)) (sym (zero-add (length xs)))
-              ∙ less 0 ((pre ++ zeros r) ++ (x ∷ [])) (λ g. absurd (never (clash g)))
+              let seen = (pre ++ zeros r) ++ (x ∷ []) in
+              let stored = put pre r (length xs) x ∙ sym (append-snoc (pre ++ zeros r) x (zeros (length xs))) in
+              ap (λ (block : List ℤ). reads (f ∷ l) (length pre + r + 1) block) stored
+              ∙ ap (λ (n : ℕ). reads (f ∷ l) n (seen ++ zeros (length xs))) long
+              ∙ ap (λ (es : List Event). reads es (length seen) (seen ++ zeros (length xs))) (sym e)
+              ∙ ap (λ (n : ℕ). reads (eventsAfter 0 xs) (length seen) (seen ++ zeros n)) (sym (zero-add (length xs)))
+              ∙ less 0 seen (λ g. absurd (never (clash g)))
               ∙ append-snoc (pre ++ zeros r) x xs
               ∙ append-assoc pre (zeros r) (x ∷ xs)
             where
@@ -161,7 +168,7 @@ reads-back levels full =
 zeros-scanned : (s : ℕ) → scanned (gridOf s) (zeros 64) ≡ zeros 64
 unfolding scanned
 zeros-scanned s =
-    tabulate-cong 64 _ (λ _. pos 0) (λ k h. getD-replicate 64 (placeOf (gridOf s) k) (pos 0) (pos 0) (permutes s .place-below k h))
+    tabulate-cong 64 _ (λ _. pos 0) (λ k h. getD-replicate 64 (scanPlaceOf (gridOf s) k) (pos 0) (pos 0) (permutes s .place-below k h))
     ∙ tabulate-const 64 (pos 0)
 
 zeros-unscanned : (s : ℕ) → unscanned (gridOf s) (zeros 64) ≡ zeros 64

@@ -31,7 +31,7 @@ not-zero-bits (pos n) e = ne-eqb n 0 e
 not-zero-bits (negsuc n) e = refl
 
 -- after i levels: es are the events so far, and `run` zeros follow the last of them
-pub record Written (levels : List ℤ) (runs : List ℕ) (values : List ℤ) (count run i : ℕ) : Type 0 where
+pub record WrittenSoFar (levels : List ℤ) (runs : List ℕ) (values : List ℤ) (count run i : ℕ) : Type 0 where
   at : i ≤ 64
   room : run + count ≤ i
   es : List Event
@@ -40,11 +40,13 @@ pub record Written (levels : List ℤ) (runs : List ℕ) (values : List ℤ) (co
   runs-are : runs ≡ area 0 (map (λ (e : Event). e .run) es)
   values-are : values ≡ area (pos 0) (map (λ (e : Event). e .level) es)
 
-pub started : (levels : List ℤ) {runs : List ℕ} {values : List ℤ} → runs ≡ replicate 64 0 → values ≡ replicate 64 (pos 0) → Written levels runs values 0 0 0
+pub started : (levels : List ℤ) {runs : List ℕ} {values : List ℤ} → runs ≡ replicate 64 0 → values ≡ replicate 64 (pos 0)
+    → WrittenSoFar levels runs values 0 0 0
 started levels e f = record { at = omega arith; room = omega arith; es = []; told = refl; counted = refl; runs-are = e; values-are = f }
 
 -- a store at the first free place
-stored : {X : Type 0} (f : Event → X) (d : X) (xs : List X) (es : List Event) (e : Event) (k : ℕ) → k < 64 → k ≡ length es → xs ≡ area d (map f es) → set xs k (f e) ≡ area d (map f (es ++ (e ∷ [])))
+stored : {X : Type 0} (f : Event → X) (d : X) (xs : List X) (es : List Event) (e : Event) (k : ℕ)
+    → k < 64 → k ≡ length es → xs ≡ area d (map f es) → set xs k (f e) ≡ area d (map f (es ++ (e ∷ [])))
 stored {X} f d xs es e k room here is =
     let long : k ≡ length (map f es) = here ∙ sym (length-map es f) in
     ap (λ (l : List X). set l k (f e)) is
@@ -52,13 +54,15 @@ stored {X} f d xs es e k room here is =
     ∙ pad-more 64 d (f e) (map f es) (omega arith)
     ∙ ap (area d) (sym (map-snoc f es e))
 
-module _ {levels : List ℤ} {runs : List ℕ} {values : List ℤ} {count run i : ℕ} (full : length levels ≡ 64) (more : i < 64) (w : Written levels runs values count run i) where
+module _
+    {levels : List ℤ} {runs : List ℕ} {values : List ℤ} {count run i : ℕ}
+    (full : length levels ≡ 64) (more : i < 64) (w : WrittenSoFar levels runs values count run i) where
   -- what is left, with its first level apart
   next : (r : ℕ) → eventsAfter r (drop i levels) ≡ eventsAfter r (getD levels i (pos 0) ∷ drop (i + 1) levels)
   next r =
       ap (eventsAfter r) (drop-cons levels i (pos 0) (omega arith) ∙ ap (λ (n : ℕ). getD levels i (pos 0) ∷ drop n levels) (sym (add-one i)))
 
-  pub zero-turn : isZero (getD levels i (pos 0)) ≡ true → Written levels runs values count (run + 1) (i + 1)
+  pub zero-turn : isZero (getD levels i (pos 0)) ≡ true → WrittenSoFar levels runs values count (run + 1) (i + 1)
   zero-turn z =
       record {
         at = omega arith;
@@ -73,7 +77,7 @@ module _ {levels : List ℤ} {runs : List ℕ} {values : List ℤ} {count run i 
         values-are = w .values-are;
       }
 
-  pub level-turn : isZero (getD levels i (pos 0)) ≡ false → Written levels (set runs count run) (set values count (getD levels i (pos 0))) (count + 1) 0 (i + 1)
+  pub level-turn : isZero (getD levels i (pos 0)) ≡ false → WrittenSoFar levels (set runs count run) (set values count (getD levels i (pos 0))) (count + 1) 0 (i + 1)
   level-turn z =
       let e : Event = record { run = run; level = getD levels i (pos 0) } in
       let h = w .room in
@@ -94,8 +98,8 @@ same-set : {X : Type 0} (l : List X) (k : ℕ) (v d : X) → getD l k d ≡ v �
 same-set l k v d e = ap (set l k) (sym e) ∙ set-getD l k d
 
 -- equal areas and counts
-carried : {levels : List ℤ} {runs runs′ : List ℕ} {values values′ : List ℤ} {count count′ run i : ℕ} → runs ≡ runs′ → values ≡ values′ → count ≡ count′
-    → Written levels runs values count run i → Written levels runs′ values′ count′ run i
+carried : {levels : List ℤ} {runs runs′ : List ℕ} {values values′ : List ℤ} {count count′ run i : ℕ}
+    → runs ≡ runs′ → values ≡ values′ → count ≡ count′ → WrittenSoFar levels runs values count run i → WrittenSoFar levels runs′ values′ count′ run i
 carried p q r w =
     record {
       at = w .at;
@@ -110,7 +114,7 @@ carried p q r w =
 -- a turn stores first and counts after, so that the first free place may hold a run that is no event's: with 0 there, all is as above
 module _
     (levels : List ℤ) (runs : List ℕ) (values : List ℤ) (count run i : ℕ)
-    (full : length levels ≡ 64) (more : i < 64) (w : Written levels (set runs count 0) values count run i) where
+    (full : length levels ≡ 64) (more : i < 64) (w : WrittenSoFar levels (set runs count 0) values count run i) where
   abbrev level : ℤ
   level = getD levels i (pos 0)
 
@@ -134,7 +138,7 @@ module _
   abbrev pub Left : Bool → Type 0
   Left z =
       let n = count + cond z 0 1 in
-      Written levels (set (set runs count run) n 0) (set values count level) n (cond z (run + 1) 0) (i + 1)
+      WrittenSoFar levels (set (set runs count run) n 0) (set values count level) n (cond z (run + 1) 0) (i + 1)
 
   pub turn : Left (isZero level)
   turn = by (isZero level) refl
@@ -153,17 +157,19 @@ module _
           refl
           (level-turn full more w e)
 
-module _ {levels : List ℤ} {runs : List ℕ} {values : List ℤ} {count run i : ℕ} (w : Written levels runs values count run i) where
+module _ {levels : List ℤ} {runs : List ℕ} {values : List ℤ} {count run i : ℕ} (w : WrittenSoFar levels runs values count run i) where
   pub run-room : run + count ≤ i
   run-room = w .room
 
   pub runs-length : length runs ≡ 64
   runs-length =
-      ap length (w .runs-are) ∙ pad-length 64 0 (map (λ (v : Event). v .run) (w .es)) (omega (arith, length-map (w .es) (λ (v : Event). v .run), w .counted, w .room, w .at))
+      let as-long = length-map (w .es) (λ (v : Event). v .run) in
+      ap length (w .runs-are) ∙ pad-length 64 0 (map (λ (v : Event). v .run) (w .es)) (omega (arith, as-long, w .counted, w .room, w .at))
 
   pub values-length : length values ≡ 64
   values-length =
-      ap length (w .values-are) ∙ pad-length 64 (pos 0) (map (λ (v : Event). v .level) (w .es)) (omega (arith, length-map (w .es) (λ (v : Event). v .level), w .counted, w .room, w .at))
+      let as-long = length-map (w .es) (λ (v : Event). v .level) in
+      ap length (w .values-are) ∙ pad-length 64 (pos 0) (map (λ (v : Event). v .level) (w .es)) (omega (arith, as-long, w .counted, w .room, w .at))
 
   -- after all 64
   pub finished : length levels ≡ 64 → 64 ≤ i → (count ≡ length (eventsOf levels)) × ((runs ≡ runsArea levels) × (values ≡ levelsArea levels))
@@ -183,7 +189,8 @@ pub events-length : (r : ℕ) (xs : List ℤ) → length (eventsAfter r xs) ≤ 
 events-length r [] = omega arith
 events-length r (x ∷ xs) = by (events-length (suc r) xs) (events-length 0 xs) (isZero x) refl
   where
-    by : length (eventsAfter (suc r) xs) ≤ length xs → length (eventsAfter 0 xs) ≤ length xs → (t : Bool) → isZero x ≡ t → length (eventsAfter r (x ∷ xs)) ≤ suc (length xs)
+    by : length (eventsAfter (suc r) xs) ≤ length xs → length (eventsAfter 0 xs) ≤ length xs
+        → (t : Bool) → isZero x ≡ t → length (eventsAfter r (x ∷ xs)) ≤ suc (length xs)
     by h k true z = omega (arith, ap length (then (isZero x) (eventsAfter (suc r) xs) (record { run = r; level = x } ∷ eventsAfter 0 xs) z))
     by h k false z = omega (arith, ap length (else (isZero x) (eventsAfter (suc r) xs) (record { run = r; level = x } ∷ eventsAfter 0 xs) z))
 

@@ -62,12 +62,12 @@ seek g k p zero = p
 seek g k p (suc n) = cond (eqb (entryAt g p) k) p (seek g k (suc p) n)
 
 -- the place, counted by rows, of scan place k
-abbrev pub placeOf : List (List ℕ) → ℕ → ℕ
-placeOf g k = seek g k 0 64
+abbrev pub scanPlaceOf : List (List ℕ) → ℕ → ℕ
+scanPlaceOf g k = seek g k 0 64
 
 -- levels by rows, put into scan order
 unfoldable pub scanned : List (List ℕ) → List ℤ → List ℤ
-scanned g levels = tabulate 64 (λ k. getD levels (placeOf g k) (pos 0))
+scanned g levels = tabulate 64 (λ k. getD levels (scanPlaceOf g k) (pos 0))
 
 -- levels in scan order, put back by rows
 unfoldable pub unscanned : List (List ℕ) → List ℤ → List ℤ
@@ -76,9 +76,9 @@ unscanned g levels = tabulate 64 (λ p. getD levels (entryAt g p) (pos 0))
 -- each of 0..63 stands in the grid, and at one place only
 pub record Permutes (g : List (List ℕ)) : Type 0 where
   pub entry-below : (p : ℕ) → p < 64 → entryAt g p < 64
-  pub place-below : (k : ℕ) → k < 64 → placeOf g k < 64
-  pub there : (p : ℕ) → p < 64 → placeOf g (entryAt g p) ≡ p
-  pub back : (k : ℕ) → k < 64 → entryAt g (placeOf g k) ≡ k
+  pub place-below : (k : ℕ) → k < 64 → scanPlaceOf g k < 64
+  pub there : (p : ℕ) → p < 64 → scanPlaceOf g (entryAt g p) ≡ p
+  pub back : (k : ℕ) → k < 64 → entryAt g (scanPlaceOf g k) ≡ k
 
 -- scan and inverse scan undo each other
 pub record Returns (s : ℕ) : Type 0 where

@@ -153,14 +153,17 @@ fn events_reply(levels: &[i32], lasts: usize, runs: usize, out_levels: usize) ->
     refusal::unless(sizes, Refusal::Length, range)
 }
 
-// The events of a block's levels in scan order: for each its mark, 1 for the last and 0 for any other, its run and its level, from the front; the rest of each area is 0. 12, 13.
+// The events of a block's levels in scan order: for each its mark, 1 for the last and 0 for any other, its run and its level, from
+// the front; the rest of each area is 0. 12, 13.
 pub fn levels_to_events(
     levels: &[i32],
     lasts: &mut [u8],
     runs: &mut [u8],
     out_levels: &mut [i32],
 ) -> Events
-    ensures { λ r. ⌜ r ≡ eventsAnswer (eventsReply (now (levels .entry)) (length (now (lasts .entry))) (length (now (runs .entry))) (length (now («out_levels» .entry)))) (now (levels .entry)) ⌝ }
+    ensures { λ r. ⌜ r ≡ eventsAnswer
+        (eventsReply (now (levels .entry)) (length (now (lasts .entry))) (length (now (runs .entry))) (length (now («out_levels» .entry))))
+        (now (levels .entry)) ⌝ }
     ensures { λ r. ⌜ now (lasts .exit) ≡ done (r .reply) (lastsArea (now (levels .entry))) (now (lasts .entry)) ⌝ }
     ensures { λ r. ⌜ now (runs .exit) ≡ done (r .reply) (runsArea (now (levels .entry))) (now (runs .entry)) ⌝ }
     ensures { λ r. ⌜ now («out_levels» .exit) ≡ done (r .reply) (levelsArea (now (levels .entry))) (now («out_levels» .entry)) ⌝ }

@@ -5,6 +5,7 @@ ghost use Prim.Native.Nat.{_+_, _≤_, _<_};
 ghost use lib.IntN.{pos};
 ghost use lib.ListN.{length, replicate};
 ghost use Rattle.scan.specs.Event.{isZero, eventsOf, marks, area, lastsArea, runsArea, levelsArea};
+ghost use Rattle.scan.specs.Told.{SixtyFours};
 
 fn clear_bytes(bytes: &mut [u8])
     requires { ⌜ length (now bytes) ≡ 64 ⌝ }
@@ -78,11 +79,9 @@ fn mark_last(lasts: &mut [u8], count: usize)
     lasts[count - 1] = 1;
 }
 
+// The areas of a block's events, whatever stood there; the count of events.
 pub fn fill_events(levels: &[i32], lasts: &mut [u8], runs: &mut [u8], out_levels: &mut [i32]) -> u8
-    requires { ⌜ length (now levels) ≡ 64 ⌝ }
-    requires { ⌜ length (now lasts) ≡ 64 ⌝ }
-    requires { ⌜ length (now runs) ≡ 64 ⌝ }
-    requires { ⌜ length (now «out_levels») ≡ 64 ⌝ }
+    requires { ⌜ SixtyFours (length (now levels)) (length (now lasts)) (length (now runs)) (length (now «out_levels»)) ⌝ }
     ensures { λ r. ⌜ r ≡ length (eventsOf (now (levels .entry))) ⌝ }
     ensures { λ r. ⌜ now (lasts .exit) ≡ lastsArea (now (levels .entry)) ⌝ }
     ensures { λ r. ⌜ now (runs .exit) ≡ runsArea (now (levels .entry)) ⌝ }

@@ -35,5 +35,6 @@ module _ (fcode n : ℕ) (e : n ≡ range fcode) (least : 32 ≤ n) (most : n �
   high-read = ap (λ (z : ℤ). toZ w32 (ofZ w32 z)) less-one ∙ toZ-ofZ w32 (pos (n - 1)) high-kept ∙ ap (λ (k : ℕ). pos (k - 1)) e
 
   -- what f makes of both ends and a number, as the code has them
-  pub between-ends : {A : Type 0} (f : ℤ → ℤ → ℤ → A) (z : ℤ) {v : ℤ} {r : A} → v ≡ z → r ≡ f (toZ w32 (ofZ w32 (pos 0 -ℤ toZ w32 n))) (toZ w32 (ofZ w32 (toZ w32 n -ℤ pos 1))) v → r ≡ f (low fcode) (high fcode) z
+  pub between-ends : {A : Type 0} (f : ℤ → ℤ → ℤ → A) (z : ℤ) {v : ℤ} {r : A} → v ≡ z
+      → r ≡ f (toZ w32 (ofZ w32 (pos 0 -ℤ toZ w32 n))) (toZ w32 (ofZ w32 (toZ w32 n -ℤ pos 1))) v → r ≡ f (low fcode) (high fcode) z
   between-ends f z {v} k g = g ∙ ap₂ (λ (l h : ℤ). f l h v) low-read high-read ∙ ap (f (low fcode) (high fcode)) k

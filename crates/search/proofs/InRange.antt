@@ -1,20 +1,19 @@
 -- Vectors in range, as clamping makes them, and what their parts are then at most. Assumes nothing.
-use Prim.Native.Nat.{ℕ, zero, suc, _+_, _-_, _^_, _≤_, _<_}
+use Prim.Native.Nat.{ℕ, zero, suc, _+_, _-_, _^_, _≤_}
 use native.Mathlib.Omega.{arith}
-use mathlib.Core.Bool.{Bool, true, false, cond}
+use mathlib.Core.Bool.{true}
 use mathlib.Core.Path.{_≡_, refl}
 use lib.IntN.{ℤ, pos, negsuc}
-use lib.Signed.{ltZ}
 use Rattle.basis.specs.Parts.{above, below}
 use Rattle.basis.proofs.Case.{both}
 use Rattle.basis.proofs.Parts.{sides, above-neg, below-neg}
-use Rattle.basis.proofs.Signed.{le-is, lt-false}
+use Rattle.basis.proofs.Signed.{le-is}
 use Rattle.refusal.specs.Test.{between, inRange}
-use Rattle.refusal.proofs.Tests.{and-left, and-right, between-high, range-low, range-high}
+use Rattle.refusal.proofs.Tests.{and-left, and-right, between-high, range-low, range-high, cut-in}
 use Rattle.record.specs.declared.MotionVector.{MotionVector}
 use Rattle.plane.specs.Reference.{vectorInRange}
-use Rattle.search.specs.Range.{range, low, high, vectorIn, clampZ, clamped}
-use Rattle.search.specs.Told.{Within}
+use Rattle.full_search.specs.Told.{Within}
+use Rattle.search.specs.Range.{range, low, high, vectorIn, clamped}
 
 power : (n : ℕ) → 1 ≤ 2 ^ n
 power zero = omega arith
@@ -23,18 +22,6 @@ power (suc n) = omega (arith, power n)
 pub range-least : (fcode : ℕ) → 32 ≤ range fcode
 unfolding range
 range-least fcode = omega (arith, power (fcode - 1))
-
--- and beyond fcode 1 it is at least twice as wide
-pub range-twice : (fcode : ℕ) → 1 < fcode → 64 ≤ range fcode
-unfolding range
-range-twice fcode h = omega (arith, twice (fcode - 1) (omega arith))
-  where
-    twice : (n : ℕ) → 1 ≤ n → 2 ≤ 2 ^ n
-    twice zero h = absurd (none h)
-      where
-        none : 1 ≤ 0 → ⊥
-        none h = omega arith
-    twice (suc n) h = omega (arith, power n)
 
 power-upto : (k n : ℕ) → n ≤ k → 2 ^ n ≤ 2 ^ k
 power-upto zero zero h = omega arith
@@ -69,23 +56,12 @@ high-below : (fcode : ℕ) → below (high fcode) ≡ 0
 unfolding high
 high-below fcode = refl
 
-module _ (least most : ℤ) (ordered : above least + below most ≤ above most + below least) where
-  -- a clamped number lies between the ends
-  clamp-in : (z : ℤ) → inRange least most (clampZ least most z) ≡ true
-  unfolding clampZ
-  clamp-in z = at (ltZ z least) (ltZ most z) refl refl
-    where
-      at : (s t : Bool) → ltZ z least ≡ s → ltZ most z ≡ t → inRange least most (cond s least (cond t most z)) ≡ true
-      at true t p q = both (le-is least least (omega arith)) (le-is least most ordered)
-      at false true p q = both (le-is least most ordered) (le-is most most (omega arith))
-      at false false p q = both (le-is least z (lt-false z least p)) (le-is z most (lt-false most z q))
-
 ordered : (fcode : ℕ) → above (low fcode) + below (high fcode) ≤ above (high fcode) + below (low fcode)
 ordered fcode = omega (arith, low-above fcode, high-below fcode)
 
 -- a clamped vector is in range
 pub clamped-in : (fcode : ℕ) (v : MotionVector) → vectorIn fcode (clamped fcode v) ≡ true
-clamped-in fcode v = both (clamp-in (low fcode) (high fcode) (ordered fcode) (v .x)) (clamp-in (low fcode) (high fcode) (ordered fcode) (v .y))
+clamped-in fcode v = both (cut-in (low fcode) (high fcode) (v .x) (ordered fcode)) (cut-in (low fcode) (high fcode) (v .y) (ordered fcode))
 
 record Bounded (n : ℕ) (z : ℤ) : Type 0 where
   up : above z ≤ n - 1
@@ -126,7 +102,3 @@ module _ (fcode : ℕ) (v : MotionVector) (f : between 1 7 fcode ≡ true) (e : 
   -- and interpolation takes it
   pub in-interpolation : vectorInRange v ≡ true
   in-interpolation = both (one (v .x) across) (one (v .y) along)
-
-pub wider : {m n : ℕ} {d : MotionVector} → m ≤ n → Within m d → Within n d
-wider h w =
-    record { x-above = omega (arith, w .x-above); x-below = omega (arith, w .x-below); y-above = omega (arith, w .y-above); y-below = omega (arith, w .y-below) }

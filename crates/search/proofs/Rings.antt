@@ -6,9 +6,9 @@ use borrow.Author.Tests.{eq-eqb, ne-eqb}
 use lib.Dec.{eqb}
 use Rattle.basis.proofs.Case.{then, else}
 use Rattle.record.specs.declared.MotionVector.{MotionVector}
-use Rattle.search.specs.declared.Scored.{Scored}
+use Rattle.full_search.specs.declared.Scored.{Scored}
+use Rattle.full_search.specs.Costs.{consider}
 use Rattle.search.specs.Sub.{neighbour, ringAt}
-use Rattle.search.specs.Kept.{consider}
 
 module _ (sum : MotionVector → ℕ) (fcode step : ℕ) (c : MotionVector) (n : ℕ) (b : Scored) where
   pub ring-pass : n ≡ 4 → b ≡ foldl (consider sum) b (ringAt fcode step c n)

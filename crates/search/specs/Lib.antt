@@ -1,10 +1,7 @@
 pub mod Range
 pub mod Sums
-pub mod Places
-pub mod Full
 pub mod Sub
+pub mod Request
 pub mod Estimate
 pub mod Demand
-pub mod Kept
 pub mod Told
-pub mod Patch

@@ -10,11 +10,10 @@ use Rattle.record.specs.declared.MotionVector.{MotionVector}
 use Rattle.prediction.specs.declared.BVopSampleMode.{BVopSampleMode}
 use Rattle.prediction.specs.declared.BVopSampleMode.the-variants.{HalfPel, QuarterPel}
 use Rattle.prediction.specs.Luma.{unitsPerPel, wholeVector}
-use Rattle.search.specs.declared.Scored.{Scored}
+use Rattle.full_search.specs.declared.Scored.{Scored}
+use Rattle.full_search.specs.Costs.{scored}
+use Rattle.search.specs.declared.SearchSettings.{SearchSettings}
 use Rattle.search.specs.Range.{clamped}
-
-abbrev pub scored : MotionVector → ℕ → Scored
-scored v n = record { vector = v; cost = n }
 
 -- a component's neighbour: a step back, none or a step on, as k is 0, 1 or 2
 abbrev pub stepped : ℤ → ℕ → ℕ → ℤ
@@ -41,17 +40,17 @@ rings HalfPel = 1
 rings (QuarterPel bpp) = 2
 
 -- a full-sample winner in vector units, clamped
-abbrev pub start : BVopSampleMode → ℕ → MotionVector → MotionVector
-start m fcode d = clamped fcode (wholeVector m (d .x) (d .y))
+abbrev pub start : SearchSettings → MotionVector → MotionVector
+start s d = clamped (s .fcode) (wholeVector (s .mode) (d .x) (d .y))
 
-module _ (sum : MotionVector → ℕ) (m : BVopSampleMode) (fcode : ℕ) (d : MotionVector) where
+module _ (sum : MotionVector → ℕ) (s : SearchSettings) (d : MotionVector) where
   unfoldable pub subRest : List MotionVector
-  subRest = grown sum (start m fcode d) (λ c n. ring fcode (ringStep m n) c) [] (rings m)
+  subRest = grown sum (start s d) (λ c n. ring (s .fcode) (ringStep (s .mode) n) c) [] (rings (s .mode))
 
   -- THE LIST
   abbrev pub subList : List MotionVector
-  subList = start m fcode d ∷ subRest
+  subList = start s d ∷ subRest
 
   -- the vector with its sum
   unfoldable pub refined : Scored
-  refined = scored (best sum (start m fcode d) subRest) (sum (best sum (start m fcode d) subRest))
+  refined = scored (best sum (start s d) subRest) (sum (best sum (start s d) subRest))

@@ -1,18 +1,21 @@
 // Motion search: a vector for a macroblock, or one for each of its four 8 x 8 blocks. Full samples first, then half and quarter
-// samples around the winner. It leans on what `prediction` and `plane` promise and repeats none of their arithmetic.
+// samples around the winner. It leans on what `full_search`, `prediction` and `plane` promise and repeats none of their arithmetic.
 ghost use mathlib.Core.Path.{_≡_};
 ghost use mathlib.Core.Bool.{true};
-ghost use Prim.Native.Nat.{_<_, _≤_};
+ghost use Prim.Native.Nat.{_*_, _<_, _≤_};
 ghost use lib.ListN.{length};
 ghost use Rattle.refusal.specs.declared.Reply.the-variants.{Done};
 ghost use Rattle.refusal.specs.Test.{between};
 ghost use Rattle.plane.specs.Plane.{planeOf};
 ghost use Rattle.plane.specs.Source.{eightOf};
+ghost use Rattle.full_search.specs.Block.{eight, blockOf};
 ghost use Rattle.search.specs.Range.{vectorIn};
-ghost use Rattle.search.specs.Sums.{eight};
-ghost use Rattle.search.specs.Estimate.{modeOf, macroblock, settingsReply, searchReply, seedReply, fourReply, oneVector, blockVector, fourVectors, estimateMotion, estimateFour};
+ghost use Rattle.search.specs.Request.{searchRequest, settingsOf, settingsIn, macroblock, sought, settingsReply, searchReply, seedReply, fourReply};
+ghost use Rattle.search.specs.Estimate.{oneVector, blockVector, fourVectors, estimateMotion, estimateFour};
 ghost use Rattle.search.specs.Demand.{OneVector, FourVectors};
-ghost use Rattle.search.specs.Told.{Set, Ready, Judged, blockOf};
+ghost use Rattle.search.specs.Told.{Judged, Placed, EightSought, macroblockTarget, eightTarget};
+use full_search::Scored;
+use full_search::Target;
 use plane::Geometry;
 use plane::MacroblockPlace;
 use plane::Point;
@@ -22,25 +25,14 @@ use record::MotionVector;
 use refusal::Refusal;
 use refusal::Reply;
 
-mod full;
 mod range;
-mod rows;
 mod sub;
-mod sums;
 
-// A vector in vector units or a displacement by whole samples, with what it costs.
-pub struct Scored {
-    pub vector: MotionVector,
-    pub cost: u32,
-}
-
-// Places in a row: `count` from `from` on, `step` apart, of which those are listed that go `near` to `far` samples in either direction.
-pub struct Row {
-    pub from: MotionVector,
-    pub step: usize,
-    pub count: usize,
-    pub near: usize,
-    pub far: usize,
+// What a search goes by: the mode of its vectors, their range, and the rounding type of the predictions that it sums.
+pub struct SearchSettings {
+    pub mode: BVopSampleMode,
+    pub fcode: u32,
+    pub rounding: u8,
 }
 
 // A vector in vector units and its sum, both 0 where the search is refused.
@@ -55,15 +47,6 @@ pub struct EstimatedFour {
     pub reply: Reply,
     pub vectors: [MotionVector; 4],
     pub sums: [u32; 4],
-}
-
-fn mode_of(mode: u32, bpp: u32) -> BVopSampleMode
-    ensures { λ r. ⌜ r ≡ modeOf mode bpp ⌝ }
-{
-    if mode == 0 {
-        return BVopSampleMode::HalfPel;
-    }
-    BVopSampleMode::QuarterPel(bpp)
 }
 
 // 1, 2, 3
@@ -81,22 +64,48 @@ pub fn settings_reply(fcode: u32, mode: u32, bpp: u32) -> Reply
     )
 }
 
+fn settings_of(rounding: u8, mode: u32, bpp: u32, fcode: u32) -> SearchSettings
+    ensures { λ r. ⌜ r ≡ settingsOf rounding mode bpp fcode ⌝ }
+{
+    SearchSettings {
+        mode: prediction::mode_of(mode, bpp),
+        fcode,
+        rounding,
+    }
+}
+
 // 1 .. 8
 fn search_reply(
-    y: usize,
+    source: &[u8],
     size: SourceSize,
     place: MacroblockPlace,
-    bytes: usize,
+    reference: &[u8],
     geometry: Geometry,
     mode: u32,
     bpp: u32,
     fcode: u32,
 ) -> Reply
-    ensures { λ r. ⌜ r ≡ searchReply y size place bytes geometry mode bpp fcode ⌝ }
+    ensures { λ r. ⌜ r ≡ searchReply (searchRequest (now (source .entry)) size place (now (reference .entry)) geometry mode bpp fcode) ⌝ }
 {
-    let last = plane::source::luma_reply(size, y, place);
-    let second = refusal::and_then(plane::reference_reply(geometry, bytes), last);
+    let last = plane::source::luma_reply(size, source.len(), place);
+    let second = refusal::and_then(plane::reference_reply(geometry, reference.len()), last);
     refusal::and_then(settings_reply(fcode, mode, bpp), second)
+}
+
+// Where a macroblock stands.
+fn macroblock_target(geometry: Geometry, place: MacroblockPlace) -> Target
+    requires { ⌜ (16 * place .column ≤ 4080) × (16 * place .row ≤ 4080) ⌝ }
+    ensures { λ r. ⌜ r ≡ macroblockTarget geometry place ⌝ }
+{
+    let corner = Point {
+        x: (16 * place.column) as i32,
+        y: (16 * place.row) as i32,
+    };
+    Target {
+        geometry,
+        corner,
+        side: 16,
+    }
 }
 
 // The vector of a macroblock.
@@ -106,20 +115,18 @@ fn one_vector(
     place: MacroblockPlace,
     reference: &[u8],
     geometry: Geometry,
-    mode: BVopSampleMode,
-    fcode: u32,
+    settings: SearchSettings,
 ) -> Scored
-    requires { ⌜ Judged (now source) (now reference) size place geometry mode fcode ⌝ }
-    ensures { λ r. ⌜ r ≡ oneVector mode fcode (macroblock (now (source .entry)) size place (planeOf (now (reference .entry)) geometry)) ⌝ }
+    requires { ⌜ Judged (now source) size place (now reference) geometry settings ⌝ }
+    ensures { λ r. ⌜ r ≡ oneVector settings (macroblock (now (source .entry)) size place (planeOf (now (reference .entry)) geometry)) ⌝ }
 {
     let mut block = [0u8; 256];
     plane::source::luma_block(source, size, place, &mut block);
-    let x = 16 * place.column;
-    let y = 16 * place.row;
-    let w = range::full_pel_window(fcode, mode);
-    let winner = full::full_search(&block, reference, geometry, x, y, w);
-    let d = winner.vector;
-    sub::refine_subpel(&block, 16, reference, geometry, x, y, mode, fcode, d)
+    let target = macroblock_target(geometry, place);
+    let w = range::full_pel_window(settings);
+    let won = full_search::search_sixteen(&block, reference, target, settings.fcode, w);
+    let winner = won.best;
+    sub::refine_subpel(&block, reference, target, settings, winner)
 }
 
 // The vector in vector units that the candidate rule finds for a macroblock, and its sum: 1, 2, 3, 4, 5, 6, 7, 8.
@@ -133,12 +140,16 @@ pub fn estimate_motion(
     bpp: u32,
     fcode: u32,
 ) -> Estimated
-    ensures { λ r. ⌜ r ≡ estimateMotion (now (source .entry)) size place (now (reference .entry)) geometry mode bpp fcode ⌝ }
-    ensures { λ r. ⌜ (r .reply ≡ Done → OneVector (modeOf mode bpp) fcode (macroblock (now (source .entry)) size place (planeOf (now (reference .entry)) geometry)) (r .vector) (r .sum)) ⌝ }
+    ensures { λ r. ⌜ (
+        let q = searchRequest (now (source .entry)) size place (now (reference .entry)) geometry mode bpp fcode in
+        r ≡ estimateMotion q
+        ) ⌝ }
+    ensures { λ r. ⌜ (
+        let q = searchRequest (now (source .entry)) size place (now (reference .entry)) geometry mode bpp fcode in
+        r .reply ≡ Done → OneVector (settingsIn 0 q) (sought q) (r .vector) (r .sum)
+        ) ⌝ }
 {
-    let y = source.len();
-    let bytes = reference.len();
-    let reply = search_reply(y, size, place, bytes, geometry, mode, bpp, fcode);
+    let reply = search_reply(source, size, place, reference, geometry, mode, bpp, fcode);
     match reply {
         Reply::Refused(why) => Estimated {
             reply: Reply::Refused(why),
@@ -146,8 +157,8 @@ pub fn estimate_motion(
             sum: 0,
         },
         Reply::Done => {
-            let m = mode_of(mode, bpp);
-            let best = one_vector(source, size, place, reference, geometry, m, fcode);
+            let settings = settings_of(0, mode, bpp, fcode);
+            let best = one_vector(source, size, place, reference, geometry, settings);
             let vector = best.vector;
             Estimated {
                 reply: Reply::Done,
@@ -168,19 +179,19 @@ fn seed_reply(fcode: u32, seed: MotionVector) -> Reply
 
 // 1 .. 9
 fn four_reply(
-    y: usize,
+    source: &[u8],
     size: SourceSize,
     place: MacroblockPlace,
-    bytes: usize,
+    reference: &[u8],
     geometry: Geometry,
     mode: u32,
     bpp: u32,
     fcode: u32,
     seed: MotionVector,
 ) -> Reply
-    ensures { λ r. ⌜ r ≡ fourReply y size place bytes geometry mode bpp fcode seed ⌝ }
+    ensures { λ r. ⌜ r ≡ fourReply (searchRequest (now (source .entry)) size place (now (reference .entry)) geometry mode bpp fcode) seed ⌝ }
 {
-    match search_reply(y, size, place, bytes, geometry, mode, bpp, fcode) {
+    match search_reply(source, size, place, reference, geometry, mode, bpp, fcode) {
         Reply::Refused(why) => Reply::Refused(why),
         Reply::Done => seed_reply(fcode, seed),
     }
@@ -203,29 +214,44 @@ fn eight_samples(macroblock: &[u8], n: usize, out: &mut [u8])
     plane::copy_block(macroblock, whole, at, 8, 8, out);
 }
 
-// The vector of 8 x 8 block n of a macroblock at x, y whose source samples these are.
+// Where 8 x 8 block n of a macroblock stands.
+fn eight_target(target: Target, n: usize) -> Target
+    requires { ⌜ Placed (target .corner) × (n < 4) ⌝ }
+    ensures { λ r. ⌜ r ≡ eightTarget target n ⌝ }
+{
+    let geometry = target.geometry;
+    let whole = target.corner;
+    let corner = Point {
+        x: whole.x + (8 * (n % 2)) as i32,
+        y: whole.y + (8 * (n / 2)) as i32,
+    };
+    Target {
+        geometry,
+        corner,
+        side: 8,
+    }
+}
+
+// The vector of 8 x 8 block n of a macroblock whose source samples these are.
 fn block_vector(
     macroblock: &[u8],
     n: usize,
     reference: &[u8],
-    geometry: Geometry,
-    x: usize,
-    y: usize,
-    mode: BVopSampleMode,
-    fcode: u32,
+    target: Target,
+    settings: SearchSettings,
     seed: MotionVector,
 ) -> Scored
-    requires { ⌜ Ready 16 (now macroblock) (now reference) geometry x y × (n < 4) × (x ≤ 4080) × (y ≤ 4080) × Set mode fcode × (vectorIn fcode seed ≡ true) ⌝ }
-    ensures { λ r. ⌜ r ≡ blockVector mode fcode seed (eight (blockOf 16 (now (macroblock .entry)) (planeOf (now (reference .entry)) geometry) x y) n) ⌝ }
+    requires { ⌜ EightSought (now macroblock) n (now reference) target settings seed ⌝ }
+    ensures { λ r. ⌜ r ≡ blockVector settings seed (eight (blockOf (now (macroblock .entry)) (now (reference .entry)) target) n) ⌝ }
 {
     let mut block = [0u8; 64];
     eight_samples(macroblock, n, &mut block);
-    let i = x + 8 * (n % 2);
-    let j = y + 8 * (n / 2);
-    let w = range::full_pel_window(fcode, mode);
-    let winner = full::four_search(&block, reference, geometry, i, j, w, mode, seed);
-    let d = winner.vector;
-    sub::refine_subpel(&block, 8, reference, geometry, i, j, mode, fcode, d)
+    let part = eight_target(target, n);
+    let w = range::full_pel_window(settings);
+    let mode = settings.mode;
+    let won = full_search::search_eight(&block, reference, part, mode, w, seed);
+    let winner = won.best;
+    sub::refine_subpel(&block, reference, part, settings, winner)
 }
 
 // The vectors of a macroblock's four blocks.
@@ -235,21 +261,19 @@ fn four_vectors(
     place: MacroblockPlace,
     reference: &[u8],
     geometry: Geometry,
-    mode: BVopSampleMode,
-    fcode: u32,
+    settings: SearchSettings,
     seed: MotionVector,
 ) -> EstimatedFour
-    requires { ⌜ Judged (now source) (now reference) size place geometry mode fcode × (vectorIn fcode seed ≡ true) ⌝ }
-    ensures { λ r. ⌜ r ≡ fourVectors mode fcode seed (macroblock (now (source .entry)) size place (planeOf (now (reference .entry)) geometry)) ⌝ }
+    requires { ⌜ Judged (now source) size place (now reference) geometry settings × (vectorIn (settings .fcode) seed ≡ true) ⌝ }
+    ensures { λ r. ⌜ r ≡ fourVectors settings seed (macroblock (now (source .entry)) size place (planeOf (now (reference .entry)) geometry)) ⌝ }
 {
     let mut block = [0u8; 256];
     plane::source::luma_block(source, size, place, &mut block);
-    let x = 16 * place.column;
-    let y = 16 * place.row;
-    let a = block_vector(&block, 0, reference, geometry, x, y, mode, fcode, seed);
-    let b = block_vector(&block, 1, reference, geometry, x, y, mode, fcode, seed);
-    let c = block_vector(&block, 2, reference, geometry, x, y, mode, fcode, seed);
-    let d = block_vector(&block, 3, reference, geometry, x, y, mode, fcode, seed);
+    let target = macroblock_target(geometry, place);
+    let a = block_vector(&block, 0, reference, target, settings, seed);
+    let b = block_vector(&block, 1, reference, target, settings, seed);
+    let c = block_vector(&block, 2, reference, target, settings, seed);
+    let d = block_vector(&block, 3, reference, target, settings, seed);
     let va = a.vector;
     let vb = b.vector;
     let vc = c.vector;
@@ -273,12 +297,26 @@ pub fn estimate_motion_4mv(
     fcode: u32,
     seed: MotionVector,
 ) -> EstimatedFour
-    ensures { λ r. ⌜ r ≡ estimateFour (now (source .entry)) size place (now (reference .entry)) geometry mode bpp fcode seed ⌝ }
-    ensures { λ r. ⌜ (r .reply ≡ Done → FourVectors (modeOf mode bpp) fcode seed (macroblock (now (source .entry)) size place (planeOf (now (reference .entry)) geometry)) (r .vectors) (r .sums)) ⌝ }
+    ensures { λ r. ⌜ (
+        let q = searchRequest (now (source .entry)) size place (now (reference .entry)) geometry mode bpp fcode in
+        r ≡ estimateFour q seed
+        ) ⌝ }
+    ensures { λ r. ⌜ (
+        let q = searchRequest (now (source .entry)) size place (now (reference .entry)) geometry mode bpp fcode in
+        r .reply ≡ Done → FourVectors (settingsIn 0 q) seed (sought q) (r .vectors) (r .sums)
+        ) ⌝ }
 {
-    let y = source.len();
-    let bytes = reference.len();
-    let reply = four_reply(y, size, place, bytes, geometry, mode, bpp, fcode, seed);
+    let reply = four_reply(
+        source,
+        size,
+        place,
+        reference,
+        geometry,
+        mode,
+        bpp,
+        fcode,
+        seed,
+    );
     let zero = record::zero_vector();
     match reply {
         Reply::Refused(why) => EstimatedFour {
@@ -287,8 +325,8 @@ pub fn estimate_motion_4mv(
             sums: [0; 4],
         },
         Reply::Done => {
-            let m = mode_of(mode, bpp);
-            four_vectors(source, size, place, reference, geometry, m, fcode, seed)
+            let settings = settings_of(0, mode, bpp, fcode);
+            four_vectors(source, size, place, reference, geometry, settings, seed)
         }
     }
 }

@@ -1,10 +1,11 @@
-// The range of vectors by fcode, numbers clamped into it, and how far the full-sample search goes.
+// The range of vectors by fcode, vectors clamped into it, and how far the full-sample search goes.
 ghost use mathlib.Core.Path.{_≡_};
 ghost use mathlib.Core.Bool.{true};
 ghost use Prim.Native.Nat.{_≤_};
 ghost use Rattle.refusal.specs.Test.{between};
 ghost use Rattle.prediction.specs.Luma.{unitsPerPel};
-ghost use Rattle.search.specs.Range.{range, vectorIn, clampZ, clamped, window};
+ghost use Rattle.search.specs.Range.{range, vectorIn, clamped, window};
+use crate::SearchSettings;
 use prediction::BVopSampleMode;
 use record::MotionVector;
 
@@ -32,27 +33,17 @@ pub fn units_per_pel(mode: BVopSampleMode) -> usize
     }
 }
 
-pub fn full_pel_window(fcode: u32, mode: BVopSampleMode) -> usize
-    requires { ⌜ between 1 7 fcode ≡ true ⌝ }
-    ensures { λ r. ⌜ r ≡ window mode fcode ⌝ }
+pub fn full_pel_window(settings: SearchSettings) -> usize
+    requires { ⌜ between 1 7 (settings .fcode) ≡ true ⌝ }
+    ensures { λ r. ⌜ r ≡ window settings ⌝ }
 {
+    let fcode = settings.fcode;
     if fcode == 1 {
         return 8;
     }
+    let mode = settings.mode;
     let w = range(fcode) / units_per_pel(mode) - 1;
     if w < 8 { 8 } else { w }
-}
-
-fn clamp(z: i32, least: i32, most: i32) -> i32
-    ensures { λ r. ⌜ r ≡ clampZ least most z ⌝ }
-{
-    if z < least {
-        return least;
-    }
-    if most < z {
-        return most;
-    }
-    z
 }
 
 // A vector, clamped into the range of fcode.
@@ -61,8 +52,8 @@ pub fn clamped(v: MotionVector, fcode: u32) -> MotionVector
     ensures { λ r. ⌜ r ≡ clamped fcode v ⌝ }
 {
     let n = range(fcode) as i32;
-    let x = clamp(v.x, -n, n - 1);
-    let y = clamp(v.y, -n, n - 1);
+    let x = basis::clamp(v.x, -n, n - 1);
+    let y = basis::clamp(v.y, -n, n - 1);
     MotionVector { x, y }
 }
 

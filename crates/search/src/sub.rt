@@ -6,90 +6,75 @@ ghost use Prim.Native.Nat.{_*_, _/_, _<_, _≤_};
 ghost use lib.IntN.{pos, _*ℤ_};
 ghost use lib.ListN.{length};
 ghost use Rattle.basis.specs.Parts.{above, below};
-ghost use Rattle.plane.specs.Plane.{planeOf};
-ghost use Rattle.plane.specs.Reference.{vectorInRange};
-ghost use Rattle.refusal.specs.declared.Reply.the-variants.{Done};
 ghost use Rattle.prediction.specs.Luma.{unitsPerPel};
-ghost use Rattle.prediction.specs.Macroblock.{modeReply};
 ghost use Rattle.refusal.specs.Test.{between};
+ghost use Rattle.full_search.specs.Costs.{consider};
+ghost use Rattle.full_search.specs.Block.{blockOf};
+ghost use Rattle.full_search.specs.Told.{Within, Ready};
 ghost use Rattle.search.specs.Range.{vectorIn};
 ghost use Rattle.search.specs.Sums.{vectorSum};
 ghost use Rattle.search.specs.Sub.{stepped, neighbour, ringAt, ring, start, refined};
-ghost use Rattle.search.specs.Kept.{consider};
-ghost use Rattle.search.specs.Told.{Within, Ready, Set, blockOf};
-use crate::Scored;
+ghost use Rattle.search.specs.Told.{Set, Predictable, Stepping, Neighbouring, Ringed};
+use crate::SearchSettings;
 use crate::range;
-use crate::rows;
-use crate::sums;
-use plane::Geometry;
-use plane::Point;
+use full_search::Scored;
+use full_search::Target;
+use plane::Site;
 use prediction::BVopSampleMode;
 use record::MotionVector;
 
 // The sum of a vector; `predicted` is where its prediction is written.
 fn predicted_sum(
     source: &[u8],
-    side: usize,
     reference: &[u8],
-    geometry: Geometry,
-    x: usize,
-    y: usize,
-    mode: BVopSampleMode,
+    target: Target,
+    settings: SearchSettings,
     vector: MotionVector,
     predicted: &mut [u8],
 ) -> u32
-    requires { ⌜ Ready side (now source) (now reference) geometry x y × (modeReply mode ≡ Done) × (vectorInRange vector ≡ true) × (length (now predicted) ≡ side * side) ⌝ }
-    ensures { λ r. ⌜ r ≡ vectorSum mode (blockOf side (now (source .entry)) (planeOf (now (reference .entry)) geometry) x y) vector ⌝ }
+    requires { ⌜ Predictable (now source) (now reference) target settings vector × (length (now predicted) ≡ target .side * target .side) ⌝ }
+    ensures { λ r. ⌜ r ≡ vectorSum settings (blockOf (now (source .entry)) (now (reference .entry)) target) vector ⌝ }
 {
-    let origin = Point {
-        x: x as i32,
-        y: y as i32,
+    let side = target.side;
+    let corner = target.corner;
+    let geometry = target.geometry;
+    let mode = settings.mode;
+    let rounding = settings.rounding;
+    let site = Site {
+        corner,
+        width: side,
+        height: side,
     };
-    prediction::predict_luma_block(
-        reference,
-        geometry,
-        mode,
-        vector,
-        origin,
-        side,
-        side,
-        0,
-        predicted,
-    );
-    sums::block(source, side, predicted, 0, side)
+    prediction::predict_luma_block(reference, geometry, mode, site, vector, rounding, predicted);
+    full_search::block_sum(source, predicted, side)
 }
 
 // The sum of a vector in range.
 fn vector_sum(
     source: &[u8],
-    side: usize,
     reference: &[u8],
-    geometry: Geometry,
-    x: usize,
-    y: usize,
-    mode: BVopSampleMode,
+    target: Target,
+    settings: SearchSettings,
     vector: MotionVector,
 ) -> u32
-    requires { ⌜ Ready side (now source) (now reference) geometry x y × (modeReply mode ≡ Done) × (vectorInRange vector ≡ true) ⌝ }
-    ensures { λ r. ⌜ r ≡ vectorSum mode (blockOf side (now (source .entry)) (planeOf (now (reference .entry)) geometry) x y) vector ⌝ }
+    requires { ⌜ Predictable (now source) (now reference) target settings vector ⌝ }
+    ensures { λ r. ⌜ r ≡ vectorSum settings (blockOf (now (source .entry)) (now (reference .entry)) target) vector ⌝ }
 {
     let mut predicted = [0u8; 256];
+    let side = target.side;
     let size = side * side;
     predicted_sum(
         source,
-        side,
         reference,
-        geometry,
-        x,
-        y,
-        mode,
+        target,
+        settings,
         vector,
         &mut predicted[0..size],
     )
 }
 
 fn stepped(z: i32, step: usize, k: usize) -> i32
-    requires { ⌜ (above z ≤ 4096) × (below z ≤ 4096) × (step ≤ 2) × (k < 3) ⌝ }
+    requires { ⌜ Stepping z step k ⌝ }
     ensures { λ r. ⌜ r ≡ stepped z step k ⌝ }
 {
     z + (step * k) as i32 - step as i32
@@ -97,7 +82,7 @@ fn stepped(z: i32, step: usize, k: usize) -> i32
 
 // Place n of the 3 x 3 around c.
 fn neighbour(c: MotionVector, fcode: u32, step: usize, n: usize) -> MotionVector
-    requires { ⌜ Within 4096 c × (between 1 7 fcode ≡ true) × (step ≤ 2) × (n < 9) ⌝ }
+    requires { ⌜ Neighbouring c fcode step n ⌝ }
     ensures { λ r. ⌜ r ≡ neighbour fcode step c n ⌝ }
 {
     let moved = MotionVector {
@@ -110,62 +95,47 @@ fn neighbour(c: MotionVector, fcode: u32, step: usize, n: usize) -> MotionVector
 // Place n of the 3 x 3 around the best so far; b is the best of the places before it. The centre is passed over.
 fn ring_place(
     source: &[u8],
-    side: usize,
     reference: &[u8],
-    geometry: Geometry,
-    x: usize,
-    y: usize,
-    mode: BVopSampleMode,
-    fcode: u32,
+    target: Target,
+    settings: SearchSettings,
     step: usize,
     best: Scored,
     n: usize,
     b: Scored,
 ) -> Scored
-    requires { ⌜ Ready side (now source) (now reference) geometry x y × Set mode fcode × (step ≤ 2) × (vectorIn fcode (best .vector) ≡ true) × (n < 9) ⌝ }
-    ensures { λ r. ⌜ r ≡ foldl (consider (vectorSum mode (blockOf side (now (source .entry)) (planeOf (now (reference .entry)) geometry) x y))) b (ringAt fcode step (best .vector) n) ⌝ }
+    requires { ⌜ Ringed (now source) (now reference) target settings step (best .vector) × (n < 9) ⌝ }
+    ensures { λ r. ⌜ (
+        let sum = vectorSum settings (blockOf (now (source .entry)) (now (reference .entry)) target) in
+        r ≡ foldl (consider sum) b (ringAt (settings .fcode) step (best .vector) n)
+        ) ⌝ }
 {
     if n == 4 {
         return b;
     }
     let centre = best.vector;
-    let v = neighbour(centre, fcode, step, n);
-    let sum = vector_sum(source, side, reference, geometry, x, y, mode, v);
-    rows::consider(b, v, sum)
+    let v = neighbour(centre, settings.fcode, step, n);
+    let sum = vector_sum(source, reference, target, settings, v);
+    full_search::consider(b, v, sum)
 }
 
 // The eight neighbours of the best so far.
 fn ring_search(
     source: &[u8],
-    side: usize,
     reference: &[u8],
-    geometry: Geometry,
-    x: usize,
-    y: usize,
-    mode: BVopSampleMode,
-    fcode: u32,
+    target: Target,
+    settings: SearchSettings,
     step: usize,
     best: Scored,
 ) -> Scored
-    requires { ⌜ Ready side (now source) (now reference) geometry x y × Set mode fcode × (step ≤ 2) × (vectorIn fcode (best .vector) ≡ true) ⌝ }
-    ensures { λ r. ⌜ r ≡ foldl (consider (vectorSum mode (blockOf side (now (source .entry)) (planeOf (now (reference .entry)) geometry) x y))) best (ring fcode step (best .vector)) ⌝ }
+    requires { ⌜ Ringed (now source) (now reference) target settings step (best .vector) ⌝ }
+    ensures { λ r. ⌜ (
+        let sum = vectorSum settings (blockOf (now (source .entry)) (now (reference .entry)) target) in
+        r ≡ foldl (consider sum) best (ring (settings .fcode) step (best .vector))
+        ) ⌝ }
 {
     let mut b = best;
     for n in 0..9 {
-        b = ring_place(
-            source,
-            side,
-            reference,
-            geometry,
-            x,
-            y,
-            mode,
-            fcode,
-            step,
-            best,
-            n,
-            b,
-        );
+        b = ring_place(source, reference, target, settings, step, best, n, b);
     }
     b
 }
@@ -173,31 +143,20 @@ fn ring_search(
 // The eight half a sample away.
 fn half_ring(
     source: &[u8],
-    side: usize,
     reference: &[u8],
-    geometry: Geometry,
-    x: usize,
-    y: usize,
-    mode: BVopSampleMode,
-    fcode: u32,
+    target: Target,
+    settings: SearchSettings,
     best: Scored,
 ) -> Scored
-    requires { ⌜ Ready side (now source) (now reference) geometry x y × Set mode fcode × (vectorIn fcode (best .vector) ≡ true) ⌝ }
-    ensures { λ r. ⌜ r ≡ foldl (consider (vectorSum mode (blockOf side (now (source .entry)) (planeOf (now (reference .entry)) geometry) x y))) best (ring fcode (unitsPerPel mode / 2) (best .vector)) ⌝ }
+    requires { ⌜ Ready (now source) (now reference) target × Set settings × (vectorIn (settings .fcode) (best .vector) ≡ true) ⌝ }
+    ensures { λ r. ⌜ (
+        let sum = vectorSum settings (blockOf (now (source .entry)) (now (reference .entry)) target) in
+        r ≡ foldl (consider sum) best (ring (settings .fcode) (unitsPerPel (settings .mode) / 2) (best .vector))
+        ) ⌝ }
 {
+    let mode = settings.mode;
     let step = range::units_per_pel(mode) / 2;
-    ring_search(
-        source,
-        side,
-        reference,
-        geometry,
-        x,
-        y,
-        mode,
-        fcode,
-        step,
-        best,
-    )
+    ring_search(source, reference, target, settings, step, best)
 }
 
 fn scaled(z: i32, units: usize) -> i32
@@ -208,50 +167,44 @@ fn scaled(z: i32, units: usize) -> i32
 }
 
 // A displacement in vector units, clamped.
-fn start(d: MotionVector, mode: BVopSampleMode, fcode: u32) -> MotionVector
-    requires { ⌜ Within 4096 d × (between 1 7 fcode ≡ true) ⌝ }
-    ensures { λ r. ⌜ r ≡ start mode fcode d ⌝ }
+fn start(d: MotionVector, settings: SearchSettings) -> MotionVector
+    requires { ⌜ Within 4096 d × (between 1 7 (settings .fcode) ≡ true) ⌝ }
+    ensures { λ r. ⌜ r ≡ start settings d ⌝ }
 {
+    let mode = settings.mode;
     let units = range::units_per_pel(mode);
     let vector = MotionVector {
         x: scaled(d.x, units),
         y: scaled(d.y, units),
     };
-    range::clamped(vector, fcode)
+    range::clamped(vector, settings.fcode)
 }
 
-// The first of least on the sub-sample list that begins at a displacement, with its sum.
+// The first of least on the sub-sample list that begins at a full-sample winner, with its sum. What the winner cost, which may be
+// discounted, is not looked at.
 pub fn refine_subpel(
     source: &[u8],
-    side: usize,
     reference: &[u8],
-    geometry: Geometry,
-    x: usize,
-    y: usize,
-    mode: BVopSampleMode,
-    fcode: u32,
-    d: MotionVector,
+    target: Target,
+    settings: SearchSettings,
+    winner: Scored,
 ) -> Scored
-    requires { ⌜ Ready side (now source) (now reference) geometry x y × Set mode fcode × Within 4096 d ⌝ }
-    ensures { λ r. ⌜ r ≡ refined (vectorSum mode (blockOf side (now (source .entry)) (planeOf (now (reference .entry)) geometry) x y)) mode fcode d ⌝ }
+    requires { ⌜ Ready (now source) (now reference) target × Set settings × Within 4096 (winner .vector) ⌝ }
+    ensures { λ r. ⌜ (
+        let sum = vectorSum settings (blockOf (now (source .entry)) (now (reference .entry)) target) in
+        r ≡ refined sum settings (winner .vector)
+        ) ⌝ }
 {
-    let vector = start(d, mode, fcode);
-    let cost = vector_sum(source, side, reference, geometry, x, y, mode, vector);
+    let d = winner.vector;
+    let vector = start(d, settings);
+    let cost = vector_sum(source, reference, target, settings, vector);
     let first = Scored { vector, cost };
-    let half = half_ring(source, side, reference, geometry, x, y, mode, fcode, first);
+    let half = half_ring(source, reference, target, settings, first);
+    let mode = settings.mode;
     match mode {
         BVopSampleMode::HalfPel => half,
-        BVopSampleMode::QuarterPel(_) => ring_search(
-            source,
-            side,
-            reference,
-            geometry,
-            x,
-            y,
-            mode,
-            fcode,
-            1,
-            half,
-        ),
+        BVopSampleMode::QuarterPel(_) => {
+            ring_search(source, reference, target, settings, 1, half)
+        }
     }
 }

@@ -6,7 +6,7 @@ use borrow.Author.Needs.{needs}
 use Rattle.record.specs.Count.{fourTotal}
 use Rattle.clip.specs.Decimal.{decimal}
 use Rattle.clip.specs.Line.{spaced, vectorWords, vectorAt, fourWords}
-use Rattle.clip.specs.Push.{pushes}
+use Rattle.clip.specs.ToldPush.{pushes}
 use Rattle.clip.proofs.Lines.{spaced-more}
 use Rattle.clip.proofs.four_words.Statement.{statement}
 use Rattle.clip.proofs.four_words.Tie as tie

@@ -5,7 +5,7 @@ use mathlib.Core.Path.{sym, ap, _∙_}
 use borrow.Author.Needs.{needs}
 use Rattle.basis.proofs.Case.{then, else}
 use Rattle.clip.specs.Line.{spaced, fourWords}
-use Rattle.clip.specs.Push.{pushes}
+use Rattle.clip.specs.ToldPush.{pushes}
 use Rattle.clip.proofs.further_words.Statement.{statement}
 use Rattle.clip.proofs.further_words.Tie as tie
 

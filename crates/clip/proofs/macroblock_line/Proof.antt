@@ -3,10 +3,10 @@ use mathlib.Core.Bool.{cond}
 use mathlib.Core.List.{[], _++_}
 use borrow.Author.Needs.{needs}
 use Rattle.clip.specs.Line.{macroblockWords, fourWords, macroblockLine}
-use Rattle.clip.specs.Push.{noText}
+use Rattle.clip.specs.ToldPush.{noText}
 use Rattle.clip.proofs.Lines.{further-more, ended, held-whole}
 use Rattle.clip.proofs.Room.{line-short}
-use Rattle.clip.proofs.Typed.{typed}
+use Rattle.clip.proofs.TypedRecord.{typed-record}
 use Rattle.clip.proofs.macroblock_line.Statement.{statement}
 use Rattle.clip.proofs.macroblock_line.Tie as tie
 
@@ -28,7 +28,7 @@ returns c =
     held-whole _ (macroblockLine (a .column) (a .row) (a .given) (a .four))
     (ended noText (macroblockWords (a .column) (a .row) (a .given) ++ vs) (c .push .ensures)
     (further-more noText (a .column) (a .row) (a .given) vs (c .before .further-words .ensures) (c .before .before .macroblock-words .ensures)))
-    (line-short (a .column) (a .row) (a .given) (a .four) (s .fits .column .fits) (s .fits .row .fits) (typed (a .given) _ (s .good .1 .1 .0)))
+    (line-short (a .column) (a .row) (a .given) (a .four) (s .fits .column .fits) (s .fits .row .fits) (typed-record (a .given) _ (s .good .1 .1 .0)))
 
 pub macroblock-line-spec : {M : Type 1} → statement M
 macroblock-line-spec =

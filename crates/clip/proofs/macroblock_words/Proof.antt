@@ -5,17 +5,17 @@ use mathlib.Core.Path.{_≡_, ap, ap₂, _∙_}
 use borrow.Author.Needs.{needs}
 use Rattle.clip.specs.declared.Text.{Text}
 use Rattle.clip.specs.Decimal.{decimal}
-use Rattle.clip.specs.Line.{spaced, joined, vectorWords, macroblockWords}
-use Rattle.clip.specs.Push.{noText, pushes}
-use Rattle.clip.proofs.Lines.{begun, joined-more}
+use Rattle.clip.specs.Line.{spaced, concatenated, vectorWords, macroblockWords}
+use Rattle.clip.specs.ToldPush.{noText, pushes}
+use Rattle.clip.proofs.Lines.{begun, concatenated-more}
 use Rattle.clip.proofs.macroblock_words.Statement.{statement}
 use Rattle.clip.proofs.macroblock_words.Tie as tie
 
 -- a word more, whose number is known
 more : {r u : Text} {n : ℕ} (m : ℕ) (w : List ℕ) (ws : List (List ℕ)) → r ≡ pushes u (spaced (decimal n ∷ [])) → n ≡ m
-    → u ≡ pushes noText (joined (w ∷ ws)) → r ≡ pushes noText (joined (w ∷ (ws ++ (decimal m ∷ []))))
+    → u ≡ pushes noText (concatenated (w ∷ ws)) → r ≡ pushes noText (concatenated (w ∷ (ws ++ (decimal m ∷ []))))
 more {r} {u} m w ws e p f =
-    joined-more noText w ws (decimal m ∷ []) (e ∙ ap (λ (k : ℕ). pushes u (spaced (decimal k ∷ []))) p) f
+    concatenated-more noText w ws (decimal m ∷ []) (e ∙ ap (λ (k : ℕ). pushes u (spaced (decimal k ∷ []))) p) f
 
 no-text-requires : tie.Need-no-text-requires
 no-text-requires c κs = search needs
@@ -81,7 +81,7 @@ returns c =
     (more _ w q (chroma .word4 .ensures) (chroma .before .wide82 .ensures .0)
     (more _ w p (luma .word3 .ensures) (luma .before .wide8 .ensures .0)
     (more _ w v (summed .word2 .ensures) (summed .before .wide32 .ensures .0)
-    (joined-more noText w (decimal (a .row) ∷ []) (vectorWords (m .vector)) (moved .vector-words .ensures)
+    (concatenated-more noText w (decimal (a .row) ∷ []) (vectorWords (m .vector)) (moved .vector-words .ensures)
     (more _ w [] (place .word .ensures) (place .before .wide2 .ensures)
     (begun noText w
     (start .number .ensures

@@ -7,8 +7,8 @@ use Rattle.refusal.specs.Number.{numberOf}
 use Rattle.clip.specs.declared.Text.{Text}
 use Rattle.clip.specs.Decimal.{decimal}
 use Rattle.clip.specs.Line.{spaced, refusedWord, refusalLine}
-use Rattle.clip.specs.Push.{noText, pushes}
-use Rattle.clip.proofs.Lines.{begun, joined-more, ended, held-whole}
+use Rattle.clip.specs.ToldPush.{noText, pushes}
+use Rattle.clip.proofs.Lines.{begun, concatenated-more, ended, held-whole}
 use Rattle.clip.proofs.Room.{refusal-short}
 use Rattle.clip.proofs.refusal_line.Statement.{statement}
 use Rattle.clip.proofs.refusal_line.Tie as tie
@@ -46,7 +46,7 @@ returns c =
     let why = none .before .args .why in
     held-whole _ (refusalLine why)
     (ended noText (refusedWord ∷ decimal (numberOf why) ∷ []) (c .push .ensures)
-    (joined-more noText refusedWord [] (decimal (numberOf why) ∷ [])
+    (concatenated-more noText refusedWord [] (decimal (numberOf why) ∷ [])
     (c .before .word .ensures
     ∙ ap (λ (n : ℕ). pushes (word .put-bytes .result) (spaced (decimal n ∷ []))) (number-is w))
     (begun noText refusedWord

@@ -10,8 +10,8 @@ use borrow.Author.Needs.{needs}
 use Rattle.coding.proofs.macroblock_residual.Statement.{statement}
 use Rattle.coding.proofs.macroblock_residual.Tie as tie
 
-abbrev lentOf : tie.Start → Samples
-lentOf s = samples (s .args .pred-y .now) (s .args .pred-cb .now) (s .args .pred-cr .now)
+abbrev lentIn : tie.Start → Samples
+lentIn s = samples (s .args .pred-y .now) (s .args .pred-cb .now) (s .args .pred-cr .now)
 
 abbrev startAt : tie.After-enum-told → tie.Start
 startAt c = c .before .before .before .before .before .before .before .before .before
@@ -33,7 +33,7 @@ enum-told c = search needs
 macroblock-residual-requires : tie.Need-macroblock-residual-requires
 macroblock-residual-requires c κs =
     let s = startAt (c .before) in
-    residual-accepted _ _ _ _ _ (lentOf s) _ (accepted (c .before))
+    residual-accepted _ _ _ _ _ (lentIn s) _ (accepted (c .before))
 
 returns : tie.Need-returns
 returns c = (sym (c .before .reply .given .1) ∙ c .before .before .before .residual-reply .ensures, (refl, λ e. not-done _ e))

@@ -1,8 +1,6 @@
 -- `coding::quantise_inter_block` meets its contract. Assumes nothing.
 use Prim.Native.Nat.{ℕ}
-use mathlib.Core.List.{List}
 use mathlib.Core.Path.{_≡_, refl, sym, ap, _∙_}
-use lib.IntN.{ℤ}
 use lib.ListN.{length}
 use Rattle.refusal.specs.declared.Reply.{Reply}
 use Rattle.refusal.specs.declared.Reply.the-variants.{Done}
@@ -14,15 +12,17 @@ use borrow.Author.Needs.{needs}
 use Rattle.coding.proofs.quantise_inter_block.Statement.{statement}
 use Rattle.coding.proofs.quantise_inter_block.Tie as tie
 
-abbrev howOf : tie.Start → Quantising
-howOf s = quantisingOf (s .args .quantiser) (s .args .first-method) (s .args .weights .now) (s .args .scan)
+abbrev quantisingAt : tie.Start → Quantising
+quantisingAt s = quantisingOf (s .args .quantiser) (s .args .first-method) (s .args .weights .now) (s .args .scan)
 
 abbrev replyOf : tie.Start → Reply
-replyOf s = codingReply 64 (s .args .residual .now) (howOf s) (length (s .args .lasts .now)) (length (s .args .runs .now)) (length (s .args .levels .now))
+replyOf s =
+    let a = s .args in
+    codingReply 64 (a .residual .now) (quantisingAt s) (length (a .lasts .now)) (length (a .runs .now)) (length (a .levels .now))
 
 -- the answer, by its reply
 abbrev answer : tie.Start → Reply → Events
-answer s r = blockEvents r (howOf s) (s .args .residual .now)
+answer s r = blockEvents r (quantisingAt s) (s .args .residual .now)
 
 abbrev startAt : tie.After-enum-told → tie.Start
 startAt c = c .before .before .before .before .before .before
@@ -42,7 +42,7 @@ enum-told c = search needs
 quantise-inter-block-requires : tie.Need-quantise-inter-block-requires
 quantise-inter-block-requires c κs =
     let s = startAt (c .before .before .before) in
-    coding-accepted 64 (s .args .residual .now) (howOf s) _ _ _ (accepted (c .before .before .before))
+    coding-accepted 64 (s .args .residual .now) (quantisingAt s) _ _ _ (accepted (c .before .before .before))
 
 returns : tie.Need-returns
 returns c =

@@ -8,7 +8,7 @@ use lib.ListN.{length}
 use Rattle.basis.proofs.Lists.{filled, filled-none, filled-set, filled-end}
 use Rattle.basis.proofs.Signed.{of-bits}
 use Rattle.fdct.specs.Block.{sample}
-use Rattle.fdct.specs.Pass.{swappedAt}
+use Rattle.fdct.specs.Told.{swappedAt}
 use Rattle.fdct.proofs.to_doubles.Statement.{statement}
 use Rattle.fdct.proofs.to_doubles.Tie as tie
 
@@ -49,7 +49,10 @@ loop-less : tie.Need-loop-less Inv-loop μ-loop
 loop-less c = search needs
 
 loop-again : tie.Need-loop-again Inv-loop μ-loop
-loop-again c = let l = c .before .before .before .loop in (search needs, search needs, filled-set (l .k) _ _ (l .block) _ (l .inv .2) (ap (ofInt binary64) (of-bits _ (c .before .block .given))) (search needs))
+loop-again c =
+    let l = c .before .before .before .loop in
+    let given = c .before .block .given in
+    (search needs, search needs, filled-set (l .k) _ _ (l .block) _ (l .inv .2) (ap (ofInt binary64) (of-bits _ given)) (search needs))
 
 returns : tie.Need-returns Inv-loop μ-loop
 returns c = let l = c .before .loop in filled-end (l .k) _ _ (l .block) (l .inv .2) (omega arith)

@@ -39,7 +39,9 @@ returns c =
     let rows = c .before .before .before .before .before .before .before .before .before in
     let down = c .before .before .before .before .before in
     c .before .write-out .ensures
-    ∙ arranged (s .args .residual .now) _ _ _ _ (across .before .before .before .before .to-doubles .ensures) (across .fdct-1d .ensures) (rows .swapped .ensures) (down .fdct-1d2 .ensures)
+    ∙ arranged (s .args .residual .now) _ _ _ _
+    (across .before .before .before .before .to-doubles .ensures) (across .fdct-1d .ensures)
+    (rows .swapped .ensures) (down .fdct-1d2 .ensures)
 
 pub transform-spec : {M : Type 1} → statement M
 transform-spec =

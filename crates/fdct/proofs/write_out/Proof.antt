@@ -7,7 +7,7 @@ use lib.ListN.{length}
 use Rattle.basis.specs.Lists.{tabulate}
 use Rattle.basis.proofs.Lists.{filled, filled-none, filled-set, filled-end}
 use Rattle.basis.proofs.Signed.{of-bits}
-use Rattle.fdct.specs.Pass.{entries}
+use Rattle.fdct.specs.Told.{entries}
 use Rattle.fdct.specs.Rounding.{coefficientOf}
 use Rattle.fdct.proofs.write_out.Statement.{statement}
 use Rattle.fdct.proofs.write_out.Tie as tie
@@ -43,13 +43,19 @@ loop-less : tie.Need-loop-less Inv-loop μ-loop
 loop-less c = search needs
 
 loop-again : tie.Need-loop-again Inv-loop μ-loop
-loop-again c = let l = c .before .before .before .loop in (search needs, search needs, search needs, filled-set (l .k) _ _ (l .out) _ (l .inv .3) (of-bits _ (c .coefficient-of .ok) ∙ c .coefficient-of .ensures) (search needs))
+loop-again c =
+    let l = c .before .before .before .loop in
+    let v = of-bits _ (c .coefficient-of .ok) ∙ c .coefficient-of .ensures in
+    (search needs, search needs, search needs, filled-set (l .k) _ _ (l .out) _ (l .inv .3) v (search needs))
 
 same-length : tie.Need-same-length Inv-loop μ-loop
 same-length c = search needs
 
 returns : tie.Need-returns Inv-loop μ-loop
-returns c = let l = c .before .loop in filled-end (l .k) _ _ (l .out) (l .inv .3) (omega arith) ∙ ap (λ (n : ℕ). tabulate n (λ k. coefficientOf (entries (c .before .before .args .block .now) k))) (l .inv .2)
+returns c =
+    let l = c .before .loop in
+    filled-end (l .k) _ _ (l .out) (l .inv .3) (omega arith)
+    ∙ ap (λ (n : ℕ). tabulate n (λ k. coefficientOf (entries (c .before .before .args .block .now) k))) (l .inv .2)
 
 pub write-out-spec : {M : Type 1} → statement M
 write-out-spec =

@@ -9,7 +9,7 @@ use Rattle.half_sample.proofs.interpolate_block_into.Tie as tie
 
 -- what holds where nothing is refused
 done : (c : tie.After-enum-told) → let a = c .before .before .before .before .before .args in
-    blockReply (a .geometry) (length (a .samples .now)) (a .vector) (a .origin) (a .block-w) (a .block-h) (length (a .out .now)) ≡ Done
+    blockReply (a .geometry) (length (a .samples .now)) (a .vector) (a .site) (length (a .out .now)) ≡ Done
 done c = sym (c .before .before .block-reply .ensures) ∙ c .enum-told .given .1
 
 block-reply-requires : tie.Need-block-reply-requires

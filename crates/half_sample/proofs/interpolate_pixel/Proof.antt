@@ -3,6 +3,9 @@ use borrow.Author.Needs.{needs}
 use Rattle.half_sample.proofs.interpolate_pixel.Statement.{statement}
 use Rattle.half_sample.proofs.interpolate_pixel.Tie as tie
 
+cast-rc : tie.Need-cast-rc
+cast-rc c = search needs
+
 average4-requires : tie.Need-average4-requires
 average4-requires c κs = search needs
 
@@ -28,6 +31,7 @@ pub interpolate-pixel-spec : {M : Type 1} → statement M
 interpolate-pixel-spec =
     tie.close
     (tie.spec
+    cast-rc
     average4-requires
     returns
     average2-requires

@@ -19,14 +19,16 @@ split-is : (c : tie.After-split-half-pel) → c .split-half-pel .result ≡ spli
 split-is c = c .split-half-pel .ensures ∙ ap splitHalf (toZ-ofZ w32 (c .before .args .mv) (c .before .fits .mv))
 
 -- what the machine adds, and that it fits
-sum-is : (c : tie.After-split-half-pel) → toZ w32 (ofZ w32 (c .before .args .origin)) +ℤ toZ w32 (ofZ w32 (c .split-half-pel .result .whole)) ≡ c .before .args .origin +ℤ shrZ (c .before .args .mv) 2
+sum-is : (c : tie.After-split-half-pel) → let a = c .before .args in
+    toZ w32 (ofZ w32 (a .corner)) +ℤ toZ w32 (ofZ w32 (c .split-half-pel .result .whole)) ≡ a .corner +ℤ shrZ (a .mv) 2
 sum-is c =
     let s = c .before in
-    ap₂ _+ℤ_ (toZ-ofZ w32 (s .args .origin) (s .fits .origin))
-    (ap (λ (r : HalfPel). toZ w32 (ofZ w32 (r .whole))) (split-is c) ∙ toZ-ofZ w32 (shrZ (s .args .mv) 2) (sfits-le (mag-shr (s .args .mv) 2) (s .fits .mv)))
+    ap₂ _+ℤ_ (toZ-ofZ w32 (s .args .corner) (s .fits .corner))
+    (ap (λ (r : HalfPel). toZ w32 (ofZ w32 (r .whole))) (split-is c)
+    ∙ toZ-ofZ w32 (shrZ (s .args .mv) 2) (sfits-le (mag-shr (s .args .mv) 2) (s .fits .mv)))
 
-sum-fits : (c : tie.Start) → SFits w32 (c .args .origin +ℤ shrZ (c .args .mv) 2)
-sum-fits c = moved-fits (c .args .origin) (c .args .mv) 2 (c .pre .0) (c .pre .1)
+sum-fits : (c : tie.Start) → SFits w32 (c .args .corner +ℤ shrZ (c .args .mv) 2)
+sum-fits c = moved-fits (c .args .corner) (c .args .mv) 2 (c .pre .0) (c .pre .1)
 
 add-t4 : tie.Need-add-t4
 add-t4 c = subst (SFits w32) (sym (sum-is (c .before .before))) (sum-fits (c .before .before .before))
@@ -34,7 +36,7 @@ add-t4 c = subst (SFits w32) (sym (sum-is (c .before .before))) (sum-fits (c .be
 returns : tie.Need-returns
 returns c =
     let p = c .before .before in
-    let z = p .before .args .origin +ℤ shrZ (p .before .args .mv) 2 in
+    let z = p .before .args .corner +ℤ shrZ (p .before .args .mv) 2 in
     record {
       at = ap (λ (v : ℤ). toZ w32 (ofZ w32 v)) (sum-is p) ∙ toZ-ofZ w32 z (sum-fits (p .before));
       half = ap (λ (r : HalfPel). r .half) (split-is p);

@@ -1,16 +1,13 @@
 -- `macroblock::intra_activity` meets its contract. Assumes nothing.
 use Prim.Native.Nat.{ℕ}
-use mathlib.Core.List.{List}
 use mathlib.Core.Path.{_≡_, refl, sym, ap, _∙_}
 use lib.ListN.{length}
 use Rattle.refusal.specs.declared.Reply.{Reply}
 use Rattle.refusal.specs.declared.Reply.the-variants.{Done, Refused}
 use Rattle.refusal.specs.Reply.{andThen, done}
 use Rattle.refusal.proofs.Replies.{left}
-use Rattle.plane.specs.declared.SourceSize.{SourceSize}
-use Rattle.plane.specs.declared.MacroblockPlace.{MacroblockPlace}
 use Rattle.plane.specs.Reference.{lengthReply}
-use Rattle.plane.specs.Source.{lumaReply, lumaBlock, lumaBlockReply}
+use Rattle.plane.specs.Source.{sourceLumaReply, sourceLuma}
 use Rattle.macroblock.specs.declared.Activity.{Activity}
 use Rattle.macroblock.specs.Activities.{activityOf, intraActivity}
 use borrow.Author.Needs.{needs}
@@ -25,17 +22,19 @@ fits (Refused why) = refl
 
 -- the answer, by its reply
 abbrev answer : tie.Start → Reply → Activity
-answer s r = record { reply = r; sum = done r (activityOf (lumaBlock (s .args .y .now) (s .args .size) (s .args .place))) 0 }
+answer s r = record { reply = r; sum = done r (activityOf (sourceLuma (s .args .y .now) (s .args .size) (s .args .place))) 0 }
 
-answered : (s : tie.Start) → answer s (lumaReply (s .args .size) (length (s .args .y .now)) (s .args .place)) ≡ intraActivity (s .args .y .now) (s .args .size) (s .args .place)
+answered : (s : tie.Start) → let a = s .args in
+    answer s (sourceLumaReply (a .size) (length (a .y .now)) (a .place)) ≡ intraActivity (a .y .now) (a .size) (a .place)
 unfolding intraActivity
 answered s = refl
 
 abbrev startAt : tie.After-luma-block → tie.Start
 startAt c = c .before .before .before
 
-replied : (c : tie.After-luma-block) → let a = startAt c .args in c .luma-block .result ≡ lumaReply (a .size) (length (a .y .now)) (a .place)
-replied c = let a = startAt c .args in c .luma-block .ensures .0 ∙ fits (lumaReply (a .size) (length (a .y .now)) (a .place))
+replied : (c : tie.After-luma-block) → let a = startAt c .args in
+    c .luma-block .result ≡ sourceLumaReply (a .size) (length (a .y .now)) (a .place)
+replied c = let a = startAt c .args in c .luma-block .ensures .0 ∙ fits (sourceLumaReply (a .size) (length (a .y .now)) (a .place))
 
 slice-aggregate-luma-block : tie.Need-slice-aggregate-luma-block
 slice-aggregate-luma-block c = search needs
@@ -68,8 +67,11 @@ returns-2 c =
     let s = startAt l in
     let a = s .args in
     let is = t .enum-told .given .1 in
-    let copied : l .luma-block .last .1 .1 .1 .0 ≡ lumaBlock (a .y .now) (a .size) (a .place) = left _ Done _ _ _ is refl (l .luma-block .ensures .1) in
-    ap (λ (n : ℕ). record { reply = Done; sum = n }) (c .activity .ensures ∙ ap activityOf copied) ∙ ap (answer s) (sym is ∙ replied l) ∙ answered s
+    let copied : l .luma-block .last .1 .1 .1 .0 ≡ sourceLuma (a .y .now) (a .size) (a .place) =
+    left _ Done _ _ _ is refl (l .luma-block .ensures .1) in
+    ap (λ (n : ℕ). record { reply = Done; sum = n }) (c .activity .ensures ∙ ap activityOf copied)
+    ∙ ap (answer s) (sym is ∙ replied l)
+    ∙ answered s
 
 pub intra-activity-spec : {M : Type 1} → statement M
 intra-activity-spec =

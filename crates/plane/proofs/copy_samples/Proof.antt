@@ -19,7 +19,9 @@ same-length : tie.Need-same-length
 same-length c = search needs
 
 returns-2 : tie.Need-returns-2
-returns-2 c = (ap (λ (t : Bool). unless t Length Done) (sym (eq-eqb _ _ (c .before .before .before .before .if1 .left))), c .before .before .copy-straight .ensures)
+returns-2 c =
+    let same = c .before .before .before .before .if1 .left in
+    (ap (λ (t : Bool). unless t Length Done) (sym (eq-eqb _ _ same)), c .before .before .copy-straight .ensures)
 
 pub copy-samples-spec : {M : Type 1} → statement M
 copy-samples-spec = tie.close (tie.spec returns copy-straight-requires same-length returns-2)

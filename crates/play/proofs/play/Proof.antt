@@ -31,7 +31,8 @@ open-requires c κs = search needs
 play-picture-requires : tie.Need-play-picture-requires
 play-picture-requires c κs =
     let h = c .before .before .before .before .before .read-header in
-    ap (λ (x : Header). headReply (x .head)) (h .ensures) ∙ judged-again _ _ (sym (ap (λ (x : Header). x .reply) (h .ensures)) ∙ c .before .before .enum-told .given .1)
+    ap (λ (x : Header). headReply (x .head)) (h .ensures)
+    ∙ judged-again _ _ (sym (ap (λ (x : Header). x .reply) (h .ensures)) ∙ c .before .before .enum-told .given .1)
 
 returns : tie.Need-returns
 returns c = search needs

@@ -19,10 +19,14 @@ four-reply-requires : tie.Need-four-reply-requires
 four-reply-requires c κs = search needs
 
 returns : tie.Need-returns
-returns c = c .motion-reply .ensures ∙ ap (λ (m : PvopMbMotion). motionsReply m (c .before .before .before .before .args .origin)) (sym (c .before .before .motion .given .1))
+returns c =
+    c .motion-reply .ensures
+    ∙ ap (λ (m : PvopMbMotion). motionsReply m (c .before .before .before .before .args .corner)) (sym (c .before .before .motion .given .1))
 
 returns-2 : tie.Need-returns-2
-returns-2 c = c .four-reply .ensures ∙ ap (λ (m : PvopMbMotion). motionsReply m (c .before .before .before .before .args .origin)) (sym (c .before .before .motion2 .given .1))
+returns-2 c =
+    c .four-reply .ensures
+    ∙ ap (λ (m : PvopMbMotion). motionsReply m (c .before .before .before .before .args .corner)) (sym (c .before .before .motion2 .given .1))
 
 pub motions-reply-spec : {M : Type 1} → statement M
 motions-reply-spec =

@@ -9,17 +9,17 @@ use Rattle.plane.specs.Plane.{planeOf}
 use Rattle.half_sample.specs.Block.{halfBlock}
 use Rattle.quarter_sample.specs.Block.{quarterBlock}
 use Rattle.prediction.specs.declared.BVopSampleMode.{BVopSampleMode}
-use Rattle.prediction.specs.Luma.{lumaBlock, lumaReply}
+use Rattle.prediction.specs.Luma.{predictedBlock, predictReply}
 use borrow.Author.Needs.{needs}
 use Rattle.prediction.proofs.predict_luma_block.Statement.{statement}
 use Rattle.prediction.proofs.predict_luma_block.Tie as tie
 
 -- the reply and the block in a mode
 abbrev replyIn : tie.Start → BVopSampleMode → Reply
-replyIn s m = let a = s .args in lumaReply m (a .geometry) (length (a .samples .now)) (a .vector) (a .origin) (a .block-w) (a .block-h) (length (a .out .now))
+replyIn s m = let a = s .args in predictReply m (a .geometry) (length (a .samples .now)) (a .vector) (a .site) (length (a .out .now))
 
 abbrev blockIn : tie.Start → BVopSampleMode → List ℕ
-blockIn s m = let a = s .args in lumaBlock m (planeOf (a .samples .now) (a .geometry)) (a .vector) (a .origin) (a .block-w) (a .block-h) (a .rounding)
+blockIn s m = let a = s .args in predictedBlock m (planeOf (a .samples .now) (a .geometry)) (a .site) (a .rounding) (a .vector)
 
 enum-told : tie.Need-enum-told
 enum-told c = search needs
@@ -37,26 +37,28 @@ same-length : tie.Need-same-length
 same-length c = search needs
 
 returns : tie.Need-returns
-unfolding lumaBlock halfBlock
+unfolding predictedBlock halfBlock
 returns c =
     let f = c .before .before in
     let s = f .before .before .before .before .before .before in
     let e = f .before .before .enum-told .given .1 in (
       f .interpolate-block-into .ensures .0 ∙ ap (replyIn s) (sym e),
-      f .interpolate-block-into .ensures .1 ∙ ap (λ (m : BVopSampleMode). done (f .interpolate-block-into .result) (blockIn s m) (s .args .out .now)) (sym e),
+      f .interpolate-block-into .ensures .1
+          ∙ ap (λ (m : BVopSampleMode). done (f .interpolate-block-into .result) (blockIn s m) (s .args .out .now)) (sym e),
     )
 
 same-length-2 : tie.Need-same-length-2
 same-length-2 c = search needs
 
 returns-2 : tie.Need-returns-2
-unfolding lumaBlock quarterBlock
+unfolding predictedBlock quarterBlock
 returns-2 c =
     let f = c .before .before in
     let s = f .before .before .before .before .before .before .before in
     let e = f .before .before .before .mode .given .1 in (
       f .interpolate-block-qpel-into .ensures .0 ∙ ap (replyIn s) (sym e),
-      f .interpolate-block-qpel-into .ensures .1 ∙ ap (λ (m : BVopSampleMode). done (f .interpolate-block-qpel-into .result) (blockIn s m) (s .args .out .now)) (sym e),
+      f .interpolate-block-qpel-into .ensures .1
+          ∙ ap (λ (m : BVopSampleMode). done (f .interpolate-block-qpel-into .result) (blockIn s m) (s .args .out .now)) (sym e),
     )
 
 pub predict-luma-block-spec : {M : Type 1} → statement M

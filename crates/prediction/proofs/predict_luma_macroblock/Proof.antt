@@ -10,7 +10,7 @@ use Rattle.prediction.proofs.predict_luma_macroblock.Statement.{stateme
 use Rattle.prediction.proofs.predict_luma_macroblock.Tie as tie
 
 abbrev replyOf : tie.Start → Reply
-replyOf s = let a = s .args in macroblockReply (a .mode) (a .geometry) (length (a .samples .now)) (a .motion) (a .origin) (length (a .out .now))
+replyOf s = let a = s .args in macroblockReply (a .mode) (a .geometry) (length (a .samples .now)) (a .motion) (a .corner) (length (a .out .now))
 
 answered : (c : tie.After-and-then3) → c .and-then3 .result ≡ replyOf (c .before .before .before .before .before .before .before .before .before)
 unfolding macroblockReply
@@ -19,7 +19,8 @@ answered c =
     let r = m .before .before in
     let v = r .before .before in
     joined (c .and-then3 .ensures) (m .mode-reply .ensures)
-    (joined (m .before .and-then2 .ensures) (r .reference-reply .ensures) (joined (r .before .and-then .ensures) (v .motions-reply .ensures) (v .before .length-reply .ensures)))
+    (joined (m .before .and-then2 .ensures) (r .reference-reply .ensures)
+    (joined (r .before .and-then .ensures) (v .motions-reply .ensures) (v .before .length-reply .ensures)))
 
 done : (c : tie.After-enum-told) → replyOf (c .before .before .before .before .before .before .before .before .before .before .before) ≡ Done
 done c = sym (answered (c .before .before)) ∙ c .enum-told .given .1

@@ -1,22 +1,20 @@
 -- `quantise::by_weights` meets its contract. Assumes nothing.
 use borrow.Author.Needs.{needs}
-use Prim.Native.Nat.{ℕ, _-_, _≤_}
+use Prim.Native.Nat.{_-_}
 use native.Mathlib.Omega.{arith}
 use mathlib.Core.Bool.{true}
-use mathlib.Core.Path.{_≡_, refl, sym, ap, subst, _∙_}
-use lib.IntN.{ℤ, pos, natAbs}
+use mathlib.Core.Path.{refl, sym, _∙_}
+use lib.IntN.{pos}
 use lib.ListN.{length, getD}
-use Rattle.basis.specs.Lists.{tabulate}
-use Rattle.basis.proofs.Lists.{filled, filled-none, filled-set, filled-end}
-use Rattle.basis.proofs.Signed.{of-bits}
 use Rattle.quantise.specs.Block.{levelAt, blockLevels}
 use Rattle.quantise.proofs.Accepted.{Sound, sound, weight-some}
 use Rattle.quantise.specs.Level.{levelByWeight}
+use Rattle.quantise.proofs.Storing.{StoredSoFar, stored-none, stored-long, stored-more, stored-all, read-small, read-made}
 use Rattle.quantise.proofs.by_weights.Statement.{statement}
 use Rattle.quantise.proofs.by_weights.Tie as tie
 
 abbrev Inv-loop : tie.InvT-loop
-Inv-loop coefficients quantiser weights out₀ i₀ out i = (i ≤ 64) × (length out ≡ 64) × (length out₀ ≡ 64) × (out ≡ filled i (levelAt true quantiser weights coefficients) out₀)
+Inv-loop coefficients quantiser weights out₀ i₀ out i = StoredSoFar (levelAt true quantiser weights coefficients) out₀ out i
 
 abbrev μ-loop : tie.MeasureT-loop
 μ-loop coefficients quantiser weights out₀ i₀ out i = 64 - i
@@ -26,7 +24,7 @@ good : (s : tie.Start Inv-loop μ-loop) → Sound (s .args .coefficients .now) (
 good s = sound (s .args .coefficients .now) (s .args .quantiser) true (s .args .weights .now) (length (s .args .out .now)) (s .pre)
 
 loop-holds : tie.Need-loop-holds Inv-loop μ-loop
-loop-holds c = (search needs, good (c .before) .area-long, good (c .before) .area-long, sym (filled-none _ _))
+loop-holds c = stored-none _ _ (good (c .before) .area-long)
 
 mul-quantise-method1-inter : tie.Need-mul-quantise-method1-inter Inv-loop μ-loop
 mul-quantise-method1-inter c = search needs
@@ -44,13 +42,19 @@ quantise-method1-inter-requires c κs =
     let s = c .before .before .before .before .before in
     let g = good s in
     let i = c .before .before .before .loop .i in
-    (subst (λ (z : ℤ). natAbs z ≤ 2048) (sym (of-bits (getD (s .args .coefficients .now) i (pos 0)) (c .before .quantise-method1-inter-arg .given))) (g .small i (omega arith)), weight-some (s .args .coefficients .now) (s .args .quantiser) true (s .args .weights .now) (length (s .args .out .now)) (s .pre) refl i (omega arith), g .low, g .high)
+    let x = getD (s .args .coefficients .now) i (pos 0) in
+    record {
+      small = read-small x (c .before .quantise-method1-inter-arg .given) 2048 (g .small i (omega arith));
+      weight-some = weight-some (s .args .coefficients .now) (s .args .quantiser) true (s .args .weights .now) _ (s .pre) refl i (omega arith);
+      quantiser-some = g .low;
+      quantiser-most = g .high;
+    }
 
 mul-t13 : tie.Need-mul-t13 Inv-loop μ-loop
 mul-t13 c = search needs
 
 slice-set-from-out : tie.Need-slice-set-from-out Inv-loop μ-loop
-slice-set-from-out c = search needs
+slice-set-from-out c = omega (arith, stored-long (c .before .before .before .before .loop .inv))
 
 add-i : tie.Need-add-i Inv-loop μ-loop
 add-i c = search needs
@@ -62,19 +66,19 @@ loop-again : tie.Need-loop-again Inv-loop μ-loop
 loop-again c =
     let l = c .before .before .before .before .loop in
     let s = c .before .before .before .before .before .before in
-    let f = getD (s .args .coefficients .now) (l .i) (pos 0) in
-    (search needs, search needs, search needs, filled-set (l .i) (levelAt true (s .args .quantiser) (s .args .weights .now) (s .args .coefficients .now)) (s .args .out .now) (l .out) _ (l .inv .3) (of-bits _ (c .quantise-method1-inter .ok) ∙ c .quantise-method1-inter .ensures ∙ ap (levelByWeight (getD (s .args .weights .now) (l .i) 0) (s .args .quantiser)) (of-bits f (c .before .before .quantise-method1-inter-arg .given))) (omega arith))
+    let x = getD (s .args .coefficients .now) (l .i) (pos 0) in
+    let w = getD (s .args .weights .now) (l .i) 0 in
+    let made = c .quantise-method1-inter in
+    stored-more (l .inv) _ (omega arith)
+    (read-made x (c .before .before .quantise-method1-inter-arg .given) (levelByWeight w (s .args .quantiser)) (made .result) (made .ok) (made .ensures))
 
 same-length : tie.Need-same-length Inv-loop μ-loop
-same-length c = search needs
+same-length c = stored-long (c .before .loop .inv) ∙ sym (c .before .loop .inv .was-long)
 
 returns : tie.Need-returns Inv-loop μ-loop
 unfolding blockLevels
 returns c =
-    let l = c .before .loop in
-    let s = c .before .before .before in
-    filled-end (l .i) (levelAt true (s .args .quantiser) (s .args .weights .now) (s .args .coefficients .now)) (s .args .out .now) (l .out) (l .inv .3) (omega arith)
-    ∙ ap (λ (n : ℕ). tabulate n (levelAt true (s .args .quantiser) (s .args .weights .now) (s .args .coefficients .now))) (l .inv .2)
+    stored-all (c .before .loop .inv) (omega arith)
 
 pub by-weights-spec : {M : Type 1} → statement M
 by-weights-spec =

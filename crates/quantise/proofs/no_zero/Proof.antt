@@ -36,10 +36,16 @@ loop-again : tie.Need-loop-again Inv-loop μ-loop
 loop-again c =
     let l = c .before .before .before .loop in
     let s = c .before .before .before .before .before in
-    (search needs, search needs, every-more (λ (w : ℕ). not (eqb w 0)) (s .args .weights .now) (l .i) 0 (l .good) _ (c .before .before .loop-test .taken) (c .both .ensures) (l .inv .2))
+    let more = c .before .before .loop-test .taken in (
+      search needs,
+      search needs,
+      every-more (λ (w : ℕ). not (eqb w 0)) (s .args .weights .now) (l .i) 0 (l .good) _ more (c .both .ensures) (l .inv .2),
+    )
 
 returns : tie.Need-returns Inv-loop μ-loop
-returns c = let l = c .before .loop in every-end (λ (w : ℕ). not (eqb w 0)) (c .before .before .before .args .weights .now) (l .i) (l .good) (omega arith) (l .inv .2)
+returns c =
+    let l = c .before .loop in
+    every-end (λ (w : ℕ). not (eqb w 0)) (c .before .before .before .args .weights .now) (l .i) (l .good) (omega arith) (l .inv .2)
 
 pub no-zero-spec : {M : Type 1} → statement M
 no-zero-spec =

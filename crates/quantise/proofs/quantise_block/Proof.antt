@@ -1,26 +1,28 @@
 -- `quantise::quantise_block` meets its contract. Assumes nothing.
-use mathlib.Core.Bool.{Bool, false}
-use mathlib.Core.Path.{_≡_, refl, sym, ap, subst, _∙_}
+use mathlib.Core.Bool.{false}
+use mathlib.Core.Path.{_≡_, refl, sym, subst, _∙_}
 use lib.ListN.{length}
 use Rattle.refusal.specs.declared.Reply.the-variants.{Done}
 use Rattle.refusal.proofs.Replies.{not-done}
 use Rattle.quantise.specs.Block.{blockLevels, quantiseReply}
 use Rattle.quantise.specs.Near.{NearAll}
-use Rattle.quantise.proofs.Near.{near-all}
+use Rattle.quantise.proofs.Near.{near-by-method}
 use borrow.Author.Needs.{needs}
 use Rattle.quantise.proofs.quantise_block.Statement.{statement}
 use Rattle.quantise.proofs.quantise_block.Tie as tie
 
 -- what holds where nothing is refused
-accepted : (c : tie.After-enum-told) → let a = c .before .before .before .before .args in quantiseReply (a .coefficients .now) (a .quantiser) (a .first-method) (a .weights .now) (length (a .out .now)) ≡ Done
+accepted : (c : tie.After-enum-told) → let a = c .before .before .before .before .args in
+    quantiseReply (a .coefficients .now) (a .quantiser) (a .first-method) (a .weights .now) (length (a .out .now)) ≡ Done
 accepted c = sym (c .before .before .quantise-reply .ensures) ∙ c .enum-told .given .1
 
-close : (c : tie.After-enum-told) → let a = c .before .before .before .before .args in
-    a .first-method ≡ false → NearAll (a .quantiser) (a .coefficients .now) (blockLevels (a .first-method) (a .quantiser) (a .weights .now) (a .coefficients .now))
-close c e =
+-- under the second method the levels are near
+levels-near : (c : tie.After-enum-told) → let a = c .before .before .before .before .args in
+    a .first-method ≡ false
+    → NearAll (a .quantiser) (a .coefficients .now) (blockLevels (a .first-method) (a .quantiser) (a .weights .now) (a .coefficients .now))
+levels-near c e =
     let a = c .before .before .before .before .args in
-    subst (λ (t : Bool). NearAll (a .quantiser) (a .coefficients .now) (blockLevels t (a .quantiser) (a .weights .now) (a .coefficients .now))) (sym e)
-    (near-all (a .coefficients .now) (a .quantiser) (a .weights .now) (length (a .out .now)) (sym (ap (λ (t : Bool). quantiseReply (a .coefficients .now) (a .quantiser) t (a .weights .now) (length (a .out .now))) e) ∙ accepted c))
+    near-by-method (a .coefficients .now) (a .quantiser) (a .first-method) (a .weights .now) (length (a .out .now)) e (accepted c)
 
 quantise-reply-requires : tie.Need-quantise-reply-requires
 quantise-reply-requires c κs = search needs
@@ -44,7 +46,8 @@ returns-2 : tie.Need-returns-2
 returns-2 c =
     let d = c .before .before .before in
     let a = d .before .before .before .before .args in
-    (sym (accepted d), (c .before .quantise-ready .ensures, λ _ e. subst (NearAll (a .quantiser) (a .coefficients .now)) (sym (c .before .quantise-ready .ensures)) (close d e)))
+    let filled = c .before .quantise-ready .ensures in
+    (sym (accepted d), (filled, λ _ e. subst (NearAll (a .quantiser) (a .coefficients .now)) (sym filled) (levels-near d e)))
 
 pub quantise-block-spec : {M : Type 1} → statement M
 quantise-block-spec =

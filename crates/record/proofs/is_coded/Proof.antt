@@ -21,12 +21,14 @@ worth-requires c κs = search needs
 returns : tie.Need-returns
 returns c =
     let a = c .before .before .before .args in
-    ap₂ bitSet (sym (then _ (a .given .«luma_pattern») (a .given .«chroma_pattern») (lt-ltb (a .block) 4 (c .before .if1 .taken)))) (c .before .before .worth .ensures)
+    ap₂ bitSet (sym (then _ (a .given .«luma_pattern») (a .given .«chroma_pattern») (lt-ltb (a .block) 4 (c .before .if1 .taken))))
+    (c .before .before .worth .ensures)
 
 returns-2 : tie.Need-returns-2
 returns-2 c =
     let a = c .before .before .before .args in
-    ap₂ bitSet (sym (else _ (a .given .«luma_pattern») (a .given .«chroma_pattern») (le-ltb (a .block) 4 (c .before .if1 .left)))) (c .before .before .worth .ensures)
+    ap₂ bitSet (sym (else _ (a .given .«luma_pattern») (a .given .«chroma_pattern») (le-ltb (a .block) 4 (c .before .if1 .left))))
+    (c .before .before .worth .ensures)
 
 pub is-coded-spec : {M : Type 1} → statement M
 is-coded-spec = tie.close (tie.spec worth-requires returns returns-2)

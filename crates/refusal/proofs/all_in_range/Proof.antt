@@ -16,7 +16,9 @@ use Rattle.refusal.proofs.all_in_range.Statement.{statement}
 use Rattle.refusal.proofs.all_in_range.Tie as tie
 
 abbrev Inv-loop : tie.InvT-loop
-Inv-loop low high xs good₀ i₀ i-end good i = (i ≤ length xs) × (i-end ≡ length xs) × (allInRange (toZ w32 low) (toZ w32 high) xs ≡ (good && allInRange (toZ w32 low) (toZ w32 high) (drop i xs)))
+Inv-loop low high xs good₀ i₀ i-end good i =
+    (i ≤ length xs) × (i-end ≡ length xs)
+    × (allInRange (toZ w32 low) (toZ w32 high) xs ≡ (good && allInRange (toZ w32 low) (toZ w32 high) (drop i xs)))
 
 abbrev μ-loop : tie.MeasureT-loop
 μ-loop low high xs good₀ i₀ i-end good i = length xs - i
@@ -51,7 +53,8 @@ loop-again c =
       search needs,
       search needs,
       every-more p (s .args .xs .now) (l .i) (pos 0) (l .good) _ (c .before .before .before .loop-test .taken)
-          (c .both .ensures ∙ ap (λ (t : Bool). l .good && t) (c .before .in-range .ensures ∙ ap p (of-bits x (c .before .before .in-range-arg .given)))) (l .inv .2),
+          (c .both .ensures
+          ∙ ap (λ (t : Bool). l .good && t) (c .before .in-range .ensures ∙ ap p (of-bits x (c .before .before .in-range-arg .given)))) (l .inv .2),
     )
 
 returns : tie.Need-returns Inv-loop μ-loop

@@ -38,7 +38,8 @@ returns-2 c =
     let d = c .before .before .before in
     let a = d .before .before .before .args in
     let full = scan-lengths (a .levels .now) (a .scan) (length (a .out .now)) (accepted d) .0 in
-    (sym (accepted d), (c .before .scan-ready .ensures, λ _. ap (unscanned (gridOf (a .scan))) (c .before .scan-ready .ensures) ∙ returns-to (a .scan) .by-rows (a .levels .now) full))
+    let put = c .before .scan-ready .ensures in
+    (sym (accepted d), (put, λ _. ap (unscanned (gridOf (a .scan))) put ∙ returns-to (a .scan) .by-rows (a .levels .now) full))
 
 pub forward-scan-spec : {M : Type 1} → statement M
 forward-scan-spec =

@@ -16,7 +16,8 @@ use Rattle.scan.proofs.inverse_ready.Statement.{statement}
 use Rattle.scan.proofs.inverse_ready.Tie as tie
 
 abbrev Inv-loop : tie.InvT-loop
-Inv-loop levels scan out₀ grid p₀ out p = (p ≤ 64) × (length out ≡ 64) × (length out₀ ≡ 64) × (out ≡ filled p (λ p. getD levels (entryAt grid p) (pos 0)) out₀)
+Inv-loop levels scan out₀ grid p₀ out p =
+    (p ≤ 64) × (length out ≡ 64) × (length out₀ ≡ 64) × (out ≡ filled p (λ p. getD levels (entryAt grid p) (pos 0)) out₀)
 
 abbrev μ-loop : tie.MeasureT-loop
 μ-loop levels scan out₀ grid p₀ out p = 64 - p
@@ -72,7 +73,8 @@ loop-again c =
     let d = c .before .before .before .before in
     let xs = d .before .args .levels .now in
     let f : ℕ → ℤ = λ p. getD xs (entryAt (d .scan-grid .result) p) (pos 0) in
-    (search needs, search needs, search needs, filled-set (l .p) f (d .before .args .out .now) (l .out) _ (l .inv .3) (of-bits (f (l .p)) (c .out .given)) (omega arith))
+    let set-is = filled-set (l .p) f (d .before .args .out .now) (l .out) _ (l .inv .3) (of-bits (f (l .p)) (c .out .given)) (omega arith) in
+    (search needs, search needs, search needs, set-is)
 
 same-length : tie.Need-same-length Inv-loop μ-loop
 same-length c = search needs

@@ -38,7 +38,8 @@ returns-2 c =
     let d = c .before .before .before in
     let a = d .before .before .before .args in
     let full = scan-lengths (a .levels .now) (a .scan) (length (a .out .now)) (accepted d) .0 in
-    (sym (accepted d), (c .before .inverse-ready .ensures, λ _. ap (scanned (gridOf (a .scan))) (c .before .inverse-ready .ensures) ∙ returns-to (a .scan) .by-scan (a .levels .now) full))
+    let put = c .before .inverse-ready .ensures in
+    (sym (accepted d), (put, λ _. ap (scanned (gridOf (a .scan))) put ∙ returns-to (a .scan) .by-scan (a .levels .now) full))
 
 pub inverse-scan-spec : {M : Type 1} → statement M
 inverse-scan-spec =

@@ -11,6 +11,7 @@ use Rattle.scan.specs.declared.Events.{Events}
 use Rattle.scan.specs.Event.{eventsOf, runsArea, levelsArea}
 use Rattle.scan.specs.Read.{ReadsBack}
 use Rattle.scan.specs.Reply.{eventsReply, eventsAnswer}
+use Rattle.scan.specs.Told.{SixtyFours}
 use Rattle.scan.proofs.Accepted.{events-lengths}
 use Rattle.scan.proofs.ReadBack.{reads-back}
 use borrow.Author.Needs.{needs}
@@ -18,8 +19,15 @@ use Rattle.scan.proofs.levels_to_events.Statement.{statement}
 use Rattle.scan.proofs.levels_to_events.Tie as tie
 
 -- what holds where nothing is refused
-accepted : (c : tie.After-enum-told) → let a = c .before .before .before .before .before .args in eventsReply (a .levels .now) (length (a .lasts .now)) (length (a .runs .now)) (length (a .out-levels .now)) ≡ Done
+accepted : (c : tie.After-enum-told) → let a = c .before .before .before .before .before .args in
+    eventsReply (a .levels .now) (length (a .lasts .now)) (length (a .runs .now)) (length (a .out-levels .now)) ≡ Done
 accepted c = sym (c .before .before .events-reply .ensures) ∙ c .enum-told .given .1
+
+long : (c : tie.After-enum-told) → let a = c .before .before .before .before .before .args in
+    SixtyFours (length (a .levels .now)) (length (a .lasts .now)) (length (a .runs .now)) (length (a .out-levels .now))
+long c =
+    let a = c .before .before .before .before .before .args in
+    events-lengths (a .levels .now) (length (a .lasts .now)) (length (a .runs .now)) (length (a .out-levels .now)) (accepted c)
 
 -- the areas that are written read back
 written : (c : tie.After-fill-events) → let s = c .before .before .before .before .before .before .before .before .before in
@@ -28,11 +36,10 @@ written c =
     let s = c .before .before .before .before .before .before .before .before .before in
     let xs = s .args .levels .now in
     let e = c .fill-events .ensures in
-    let full = events-lengths xs (length (s .args .lasts .now)) (length (s .args .runs .now)) (length (s .args .out-levels .now)) (accepted (c .before .before .before .before)) .0 in
     subst (ReadsBack xs (c .fill-events .last .1 .0) (c .fill-events .last .1 .1 .0) (c .fill-events .last .1 .1 .1 .0)) (sym (e .0))
     (subst (λ (v : List ℤ). ReadsBack xs (c .fill-events .last .1 .0) (c .fill-events .last .1 .1 .0) v (length (eventsOf xs))) (sym (e .1 .1 .1))
     (subst (λ (r : List ℕ). ReadsBack xs (c .fill-events .last .1 .0) r (levelsArea xs) (length (eventsOf xs))) (sym (e .1 .1 .0))
-    (subst (λ (l : List ℕ). ReadsBack xs l (runsArea xs) (levelsArea xs) (length (eventsOf xs))) (sym (e .1 .0)) (reads-back xs full))))
+    (subst (λ (l : List ℕ). ReadsBack xs l (runsArea xs) (levelsArea xs) (length (eventsOf xs))) (sym (e .1 .0)) (reads-back xs (long (c .before .before .before .before) .levels-long)))))
 
 events-reply-requires : tie.Need-events-reply-requires
 events-reply-requires c κs = search needs
@@ -44,15 +51,13 @@ enum-told : tie.Need-enum-told
 enum-told c = search needs
 
 fill-events-requires : tie.Need-fill-events-requires
-fill-events-requires c κs =
-    let s = c .before .before .before .before .before .before .before .before in
-    let l = events-lengths (s .args .levels .now) (length (s .args .lasts .now)) (length (s .args .runs .now)) (length (s .args .out-levels .now)) (accepted (c .before .before .before)) in
-    (l .0, (l .1, (l .2, l .3)))
+fill-events-requires c κs = long (c .before .before .before)
 
 returns : tie.Need-returns
 returns c =
     let s = c .before .before .before .before .before .before in
-    (ap (λ (r : Reply). eventsAnswer r (s .args .levels .now)) (sym (c .before .reply .given .1) ∙ c .before .before .before .events-reply .ensures), (refl, (refl, (refl, λ e. not-done _ e))))
+    let refused = sym (c .before .reply .given .1) ∙ c .before .before .before .events-reply .ensures in
+    (ap (λ (r : Reply). eventsAnswer r (s .args .levels .now)) refused, (refl, (refl, (refl, λ e. not-done _ e))))
 
 same-length : tie.Need-same-length
 same-length c = search needs

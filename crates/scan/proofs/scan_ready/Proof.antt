@@ -81,7 +81,8 @@ same-length c = c .before .loop .inv .long ∙ sym (lengths (c .before .before .
 returns : tie.Need-returns Inv-loop μ-loop
 returns c =
     let g = c .before .before in
-    scatter-all (grid-permutes g) (c .before .loop .inv) (c .loop-test .left) ∙ ap (λ (h : List (List ℕ)). scanned h (g .before .args .levels .now)) (g .scan-grid .ensures)
+    scatter-all (grid-permutes g) (c .before .loop .inv) (c .loop-test .left)
+    ∙ ap (λ (h : List (List ℕ)). scanned h (g .before .args .levels .now)) (g .scan-grid .ensures)
 
 pub scan-ready-spec : {M : Type 1} → statement M
 scan-ready-spec =

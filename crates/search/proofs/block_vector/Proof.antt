@@ -1,69 +1,67 @@
 -- `search::block_vector` meets its contract. Assumes nothing.
-use Prim.Native.Nat.{ℕ, _+_, _*_, _/_, _%_, _≤_}
+use Prim.Native.Nat.{ℕ, _≤_}
 use native.Mathlib.Omega.{arith}
+use mathlib.Core.Bool.{true}
 use mathlib.Core.List.{List}
 use mathlib.Core.Path.{_≡_, refl, sym, ap, subst, _∙_}
 use lib.ListN.{length}
-use Rattle.basis.specs.Lists.{raster}
 use Rattle.basis.proofs.Lists.{length-raster}
 use Rattle.record.specs.declared.MotionVector.{MotionVector}
-use Rattle.plane.specs.Plane.{Plane, planeOf}
-use Rattle.search.specs.declared.Scored.{Scored}
+use Rattle.plane.specs.Reference.{vectorInRange}
+use Rattle.plane.specs.Source.{eightOf}
+use Rattle.full_search.specs.declared.Target.{Target}
+use Rattle.full_search.specs.declared.Won.{Won}
+use Rattle.full_search.specs.Block.{Block, blockOf, copiedSum}
+use Rattle.full_search.specs.Full.{fourWinner}
+use Rattle.full_search.specs.Told.{Within, Ready}
+use Rattle.full_search.specs.Won.{eightBest, eightWon}
+use Rattle.full_search.proofs.Moves.{wider}
+use Rattle.full_search.proofs.Near.{four-within}
+use Rattle.full_search.proofs.Taken.{eight-won}
 use Rattle.search.specs.Range.{window}
-use Rattle.search.specs.Sums.{Block, vectorSum, eight}
-use Rattle.search.specs.Full.{fourWinner}
+use Rattle.search.specs.Sums.{vectorSum}
 use Rattle.search.specs.Sub.{refined}
-use Rattle.search.specs.Told.{blockOf, copiedSum, Ready, Within}
-use Rattle.search.proofs.Eights.{partOf, searched, vector-cong}
-use Rattle.search.proofs.InRange.{in-within, wider}
+use Rattle.search.specs.Told.{eightTarget}
+use Rattle.search.proofs.Eights.{partOf, eight-inside, searched, copied-vector}
+use Rattle.search.proofs.InRange.{in-interpolation}
 use Rattle.search.proofs.Windows.{window-most}
-use Rattle.search.proofs.Near.{four-within}
-use Rattle.search.proofs.WholeSums.{source-sums}
 use borrow.Author.Needs.{needs}
 use Rattle.search.proofs.block_vector.Statement.{statement}
 use Rattle.search.proofs.block_vector.Tie as tie
 
 module _ (s : tie.Start) where
-  -- the samples of block n
-  abbrev sourceOf : ℕ → ℕ → ℕ
-  sourceOf = partOf (s .args .macroblock .now) (s .args .n)
+  -- the samples of block n, where it stands, and both as one block
+  abbrev samplesIn : List ℕ
+  samplesIn = eightOf (s .args .macroblock .now) (s .args .n)
 
-  abbrev right : ℕ
-  right = s .args .x + 8 * (s .args .n % 2)
+  abbrev targetIn : Target
+  targetIn = eightTarget (s .args .target) (s .args .n)
 
-  abbrev down : ℕ
-  down = s .args .y + 8 * (s .args .n / 2)
+  abbrev blockAt : Block
+  blockAt = blockOf samplesIn (s .args .reference .now) targetIn
 
-  abbrev plane : Plane
-  plane = planeOf (s .args .reference .now) (s .args .geometry)
+  abbrev winner : MotionVector
+  winner = fourWinner (copiedSum blockAt) (window (s .args .settings)) (s .args .settings .mode) (s .args .seed)
 
-  -- the block of some source samples
-  abbrev standing : List ℕ → Block
-  standing l = blockOf 8 l plane right down
-
-  -- block n of the macroblock
-  abbrev blockN : Block
-  blockN = eight (blockOf 16 (s .args .macroblock .now) plane (s .args .x) (s .args .y)) (s .args .n)
-
-  block-ready : (l : List ℕ) → l ≡ raster 8 8 sourceOf → Ready 8 l (s .args .reference .now) (s .args .geometry) right down
-  block-ready l e =
+  ready : (l : List ℕ) → l ≡ samplesIn → Ready l (s .args .reference .now) targetIn
+  ready l e =
       record {
         is-side = refl;
-        source-fits = ap length e ∙ length-raster 8 8 sourceOf;
-        reference = s .pre .0 .reference;
-        x-max = omega (arith, s .pre .2);
-        y-max = omega (arith, s .pre .1, s .pre .3);
+        source-fits = ap length e ∙ length-raster 8 8 (partOf (s .args .macroblock .now) (s .args .n));
+        reference = s .pre .reference;
+        inside = eight-inside (s .args .target .corner) (s .args .n) (s .pre .placed) (s .pre .block-is);
       }
 
-  -- a copy of its samples has its sums
-  sums-are : (l : List ℕ) → l ≡ raster 8 8 sourceOf → vectorSum (s .args .mode) (standing l) ≡ vectorSum (s .args .mode) blockN
-  sums-are l e = ap (λ (l : List ℕ). vectorSum (s .args .mode) (standing l)) e ∙ source-sums (s .args .mode) 8 sourceOf plane right down
+  window-small : window (s .args .settings) ≤ 1023
+  window-small = window-most (s .args .settings) (s .pre .settings .fcode-usable)
 
-  abbrev winnerOf : List ℕ → MotionVector
-  winnerOf l = fourWinner (copiedSum (standing l)) (window (s .args .mode) (s .args .fcode)) (s .args .mode) (s .args .seed)
+  seed-taken : vectorInRange (s .args .seed) ≡ true
+  seed-taken = in-interpolation (s .args .settings .fcode) (s .args .seed) (s .pre .settings .fcode-usable) (s .pre .seed-in)
 
-  window-small : window (s .args .mode) (s .args .fcode) ≤ 1023
-  window-small = window-most (s .args .mode) (s .args .fcode) (s .pre .4 .range-is)
+  winner-small : Within 4096 winner
+  winner-small =
+      let t = s .args .settings in
+      wider (omega arith) (four-within (copiedSum blockAt) (window t) (t .mode) (s .args .seed) window-small)
 
 abbrev startAt : tie.After-eight-samples → tie.Start
 startAt c = c .before .before .before .before
@@ -72,46 +70,44 @@ startAt c = c .before .before .before .before
 abbrev local : tie.After-eight-samples → List ℕ
 local c = c .eight-samples .last .1 .1 .0
 
+abbrev samplesAt : tie.After-search-eight → tie.After-eight-samples
+samplesAt c = c .before .before .before .before .before
+
+found : (c : tie.After-search-eight) → c .search-eight .result .best .vector ≡ winner (startAt (samplesAt c))
+unfolding eightBest
+found c =
+    let w = c .before .before in
+    let k = samplesAt c in
+    let s = startAt k in
+    let a = s .args in
+    let e = k .eight-samples .ensures in
+    let t = w .before .eight-target .ensures in
+    let n = w .full-pel-window .ensures in
+    let r = ready s (samplesIn s) refl in
+    ap (λ (r : Won). r .best .vector)
+    (c .search-eight .ensures ∙ (λ i. eightWon (e i) (a .reference .now) (t i) (a .settings .mode) (n i) (a .seed))
+    ∙ eight-won (samplesIn s) (a .reference .now) (targetIn s) (window (a .settings)) (a .seed) (a .settings .mode) r refl (window-small s)
+    (seed-taken s))
+
 slice-aggregate-eight-samples : tie.Need-slice-aggregate-eight-samples
 slice-aggregate-eight-samples c = search needs
 
 eight-samples-requires : tie.Need-eight-samples-requires
 eight-samples-requires c κs = search needs
 
-mul-i : tie.Need-mul-i
-mul-i c = search needs
-
-add-i : tie.Need-add-i
-add-i c = search needs
-
-mul-j : tie.Need-mul-j
-mul-j c = search needs
-
-add-j : tie.Need-add-j
-add-j c = search needs
+eight-target-requires : tie.Need-eight-target-requires
+eight-target-requires c κs =
+    let s = startAt (c .before) in
+    (s .pre .placed, s .pre .block-is)
 
 full-pel-window-requires : tie.Need-full-pel-window-requires
 full-pel-window-requires c κs = search needs
 
-slice-aggregate-four-search : tie.Need-slice-aggregate-four-search
-slice-aggregate-four-search c = search needs
+slice-aggregate-search-eight : tie.Need-slice-aggregate-search-eight
+slice-aggregate-search-eight c = search needs
 
-four-search-requires : tie.Need-four-search-requires
-four-search-requires c κs =
-    let k = c .before .before .before in
-    let s = startAt k in (
-      block-ready s (local k) (k .eight-samples .ensures),
-      subst (λ (w : ℕ). w ≤ 1023) (sym (c .before .full-pel-window .ensures)) (window-small s),
-      in-within (s .args .fcode) (s .args .seed) (s .pre .4 .range-is) (s .pre .5),
-    )
-
--- what the full-sample search found
-found : (c : tie.After-four-search) → let k = c .before .before .before .before in c .four-search .result .vector ≡ winnerOf (startAt k) (local k)
-found c =
-    let k = c .before .before .before .before in
-    let s = startAt k in
-    ap (λ (r : Scored). r .vector) (c .four-search .ensures)
-    ∙ ap (λ (w : ℕ). fourWinner (copiedSum (standing s (local k))) w (s .args .mode) (s .args .seed)) (c .before .before .full-pel-window .ensures)
+search-eight-requires : tie.Need-search-eight-requires
+search-eight-requires c κs = search needs
 
 slice-aggregate-refine-subpel : tie.Need-slice-aggregate-refine-subpel
 slice-aggregate-refine-subpel c = search needs
@@ -119,24 +115,27 @@ slice-aggregate-refine-subpel c = search needs
 refine-subpel-requires : tie.Need-refine-subpel-requires
 refine-subpel-requires c κs =
     let f = c .before .before in
-    let k = f .before .before .before .before in
-    let s = startAt k in (
-      block-ready s (local k) (k .eight-samples .ensures),
-      s .pre .4,
-      subst (Within 4096) (sym (found f)) (wider (omega arith) (four-within (copiedSum (standing s (local k))) _ (s .args .mode) (s .args .seed) (window-small s))),
+    let k = samplesAt f in
+    let s = startAt k in
+    let t = f .before .before .before .eight-target .ensures in (
+      subst (Ready (local k) (s .args .reference .now)) (sym t) (ready s (local k) (k .eight-samples .ensures)),
+      s .pre .settings,
+      subst (Within 4096) (sym (found f)) (winner-small s),
     )
 
 returns : tie.Need-returns
 returns c =
     let f = c .before .before .before in
-    let k = f .before .before .before .before in
+    let k = samplesAt f in
     let s = startAt k in
     let a = s .args in
-    let b = standing s (local k) in
+    let e = k .eight-samples .ensures in
+    let t = f .before .before .before .eight-target .ensures in
+    let d = found f in
     c .refine-subpel .ensures
-    ∙ ap (refined (vectorSum (a .mode) b) (a .mode) (a .fcode)) (found f)
-    ∙ searched (a .mode) (a .fcode) (a .seed) b
-    ∙ vector-cong (a .mode) (a .fcode) (a .seed) b (blockN s) (sums-are s (local k) (k .eight-samples .ensures))
+    ∙ (λ i. refined (vectorSum (a .settings) (blockOf (e i) (a .reference .now) (t i))) (a .settings) (d i))
+    ∙ searched (a .settings) (a .seed) (blockAt s)
+    ∙ copied-vector (a .settings) (a .seed) (a .macroblock .now) (a .reference .now) (a .target) (a .n) (s .pre .sixteen)
 
 pub block-vector-spec : {M : Type 1} → statement M
 block-vector-spec =
@@ -144,13 +143,10 @@ block-vector-spec =
     (tie.spec
     slice-aggregate-eight-samples
     eight-samples-requires
-    mul-i
-    add-i
-    mul-j
-    add-j
+    eight-target-requires
     full-pel-window-requires
-    slice-aggregate-four-search
-    four-search-requires
+    slice-aggregate-search-eight
+    search-eight-requires
     slice-aggregate-refine-subpel
     refine-subpel-requires
     returns)

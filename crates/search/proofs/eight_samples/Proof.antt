@@ -7,7 +7,7 @@ use mir.Val.{toZ}
 use mir.ValLaws.{toZ-pos}
 use Rattle.plane.specs.declared.Point.{Point}
 use Rattle.search.proofs.Eights.{whole, startOf, whole-usable, eight-copied}
-use Rattle.search.proofs.Patches.{copy-is}
+use Rattle.full_search.proofs.Patches.{copy-is}
 use borrow.Author.Needs.{needs}
 use Rattle.search.proofs.eight_samples.Statement.{statement}
 use Rattle.search.proofs.eight_samples.Tie as tie

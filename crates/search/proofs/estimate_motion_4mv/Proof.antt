@@ -1,18 +1,19 @@
 -- `search::estimate_motion_4mv` meets its contract. Assumes nothing.
 use mathlib.Core.Path.{_≡_, sym, ap, subst, _∙_}
-use lib.ListN.{length, replicate}
+use mathlib.Core.Bool.{true}
+use lib.ListN.{replicate}
 use Rattle.refusal.specs.declared.Refusal.{Refusal}
-use Rattle.refusal.specs.declared.Reply.{Reply}
 use Rattle.refusal.specs.declared.Reply.the-variants.{Done, Refused}
 use Rattle.refusal.proofs.Replies.{not-done}
 use Rattle.record.specs.declared.MotionVector.{MotionVector}
-use Rattle.plane.specs.Plane.{planeOf}
-use Rattle.prediction.specs.declared.BVopSampleMode.{BVopSampleMode}
+use Rattle.search.specs.declared.SearchSettings.{SearchSettings}
 use Rattle.search.specs.declared.EstimatedFour.{EstimatedFour}
-use Rattle.search.specs.Sums.{Block}
+use Rattle.search.specs.Range.{vectorIn}
+use Rattle.search.specs.Request.{SearchRequest, searchRequest, settingsIn, sought, fourReply}
+use Rattle.search.specs.Estimate.{fourVectors}
 use Rattle.search.specs.Demand.{FourVectors}
-use Rattle.search.specs.Estimate.{modeOf, macroblock, fourReply, fourVectors, estimatedFour, estimateFour}
 use Rattle.search.specs.Told.{Judged}
+use Rattle.search.proofs.Answered.{four-by}
 use Rattle.search.proofs.Demanded.{four-vectors}
 use Rattle.search.proofs.Judge.{four-done, seed-done}
 use borrow.Author.Needs.{needs}
@@ -20,36 +21,36 @@ use Rattle.search.proofs.estimate_motion_4mv.Statement.{statement}
 use Rattle.search.proofs.estimate_motion_4mv.Tie as tie
 
 module _ (s : tie.Start) where
-  abbrev replyOf : Reply
-  replyOf =
+  abbrev requestOf : SearchRequest
+  requestOf =
       let a = s .args in
-      fourReply (length (a .source .now)) (a .size) (a .place) (length (a .reference .now)) (a .geometry) (a .mode) (a .bpp) (a .fcode) (a .seed)
+      searchRequest (a .source .now) (a .size) (a .place) (a .reference .now) (a .geometry) (a .mode) (a .bpp) (a .fcode)
 
-  abbrev modeAt : BVopSampleMode
-  modeAt = modeOf (s .args .mode) (s .args .bpp)
+  abbrev vectorsBy : SearchSettings → EstimatedFour
+  vectorsBy t = fourVectors t (s .args .seed) (sought requestOf)
 
-  abbrev blockAt : Block
-  blockAt = let a = s .args in macroblock (a .source .now) (a .size) (a .place) (planeOf (a .reference .now) (a .geometry))
+  -- what the search by some settings is told
+  abbrev Told : SearchSettings → Type 0
+  Told t =
+      let a = s .args in
+      Judged (a .source .now) (a .size) (a .place) (a .reference .now) (a .geometry) t × (vectorIn (t .fcode) (a .seed) ≡ true)
 
-  abbrev vectorsIn : BVopSampleMode → EstimatedFour
-  vectorsIn m = fourVectors m (s .args .fcode) (s .args .seed) blockAt
+-- where it is refused, with this vector four times
+abbrev refused : Refusal → MotionVector → EstimatedFour
+refused why z = record { reply = Refused why; vectors = replicate 4 z; sums = replicate 4 0 }
 
-  -- what is answered, by the reply
-  answered : (r : Reply) → r ≡ replyOf
-      → let a = s .args in
-      estimatedFour r (vectorsIn modeAt) ≡ estimateFour (a .source .now) (a .size) (a .place) (a .reference .now) (a .geometry) (a .mode) (a .bpp) (a .fcode) (a .seed)
-  unfolding estimateFour
-  answered r e = ap (λ (x : Reply). estimatedFour x (vectorsIn modeAt)) e
+abbrev startAt : tie.After-four-reply → tie.Start
+startAt c = c .before .before .before
 
-  -- where it is refused, with this vector four times
-  abbrev refused : Refusal → MotionVector → EstimatedFour
-  refused why z = record { reply = Refused why; vectors = replicate 4 z; sums = replicate 4 0 }
-
-done : (c : tie.After-enum-told) → replyOf (c .before .before .before .before .before .before) ≡ Done
+done : (c : tie.After-enum-told) → let s = startAt (c .before .before .before) in fourReply (requestOf s) (s .args .seed) ≡ Done
 done c = sym (c .before .before .before .four-reply .ensures) ∙ c .enum-told .given .1
 
-found : (c : tie.After-four-vectors) → let s = c .before .before .before .before .before .before .before .before in c .four-vectors .result ≡ vectorsIn s (modeAt s)
-found c = c .four-vectors .ensures ∙ ap (vectorsIn (c .before .before .before .before .before .before .before .before)) (c .before .mode-of .ensures)
+found : (c : tie.After-four-vectors)
+    → let s = startAt (c .before .before .before .before .before) in
+    let q = requestOf s in c .four-vectors .result ≡ fourVectors (settingsIn 0 q) (s .args .seed) (sought q)
+found c =
+    let s = startAt (c .before .before .before .before .before) in
+    c .four-vectors .ensures ∙ ap (vectorsBy s) (c .before .settings-of .ensures)
 
 four-reply-requires : tie.Need-four-reply-requires
 four-reply-requires c κs = search needs
@@ -63,33 +64,35 @@ enum-known-reply c = search needs
 enum-told : tie.Need-enum-told
 enum-told c = search needs
 
-mode-of-requires : tie.Need-mode-of-requires
-mode-of-requires c κs = search needs
+settings-of-requires : tie.Need-settings-of-requires
+settings-of-requires c κs = search needs
 
 four-vectors-requires : tie.Need-four-vectors-requires
 four-vectors-requires c κs =
-    let a = c .before .before .before .before .before .before .before .args in
-    let d = done (c .before) in (
-      subst (λ (m : BVopSampleMode). Judged (a .source .now) (a .reference .now) (a .size) (a .place) (a .geometry) m (a .fcode)) (sym (c .mode-of .ensures))
-          (four-done (a .source .now) (a .reference .now) (a .size) (a .place) (a .geometry) (a .mode) (a .bpp) (a .fcode) (a .seed) d),
-      seed-done (a .source .now) (a .reference .now) (a .size) (a .place) (a .geometry) (a .mode) (a .bpp) (a .fcode) (a .seed) d,
-    )
+    let s = startAt (c .before .before .before .before) in
+    let seed = s .args .seed in
+    let e = done (c .before) in
+    subst (Told s) (sym (c .settings-of .ensures)) (four-done (requestOf s) seed e 0, seed-done (requestOf s) seed e)
 
 returns : tie.Need-returns
 returns c =
-    let z = c .before .before .before in
-    let s = z .before .before .before .before in
-    let g = c .before .reply .given in
-    (ap (refused s (g .0 .0)) (z .zero-vector .ensures) ∙ answered s (Refused (g .0 .0)) (sym (g .1) ∙ z .before .four-reply .ensures), λ e. not-done _ e)
+    let r = c .before in
+    let z = r .before .before in
+    let k = z .before in
+    let s = startAt k in
+    let g = r .reply .given in
+    let e = sym (g .1) ∙ k .four-reply .ensures in
+    (ap (refused (g .0 .0)) (z .zero-vector .ensures) ∙ four-by (requestOf s) (s .args .seed) e, λ e. not-done _ e)
 
 returns-2 : tie.Need-returns-2
 returns-2 c =
-    let s = c .before .before .before .before .before .before .before .before in
-    let e = found c in (
-      e ∙ answered s Done (sym (done (c .before .before))),
+    let s = startAt (c .before .before .before .before .before) in
+    let q = requestOf s in
+    let v = s .args .seed in (
+      found c ∙ four-by q v (sym (done (c .before .before))),
       λ _.
-          subst (λ (r : EstimatedFour). FourVectors (modeAt s) (s .args .fcode) (s .args .seed) (blockAt s) (r .vectors) (r .sums)) (sym e)
-          (four-vectors (modeAt s) (s .args .fcode) (s .args .seed) (blockAt s)),
+          subst (λ (f : EstimatedFour). FourVectors (settingsIn 0 q) v (sought q) (f .vectors) (f .sums)) (sym (found c))
+          (four-vectors (settingsIn 0 q) v (sought q)),
     )
 
 pub estimate-motion-4mv-spec : {M : Type 1} → statement M
@@ -100,7 +103,7 @@ estimate-motion-4mv-spec =
     zero-vector-requires
     enum-known-reply
     enum-told
-    mode-of-requires
+    settings-of-requires
     four-vectors-requires
     returns
     returns-2)

@@ -1,37 +1,61 @@
 -- `search::one_vector` meets its contract. Assumes nothing.
-use Prim.Native.Nat.{ℕ, _*_, _≤_}
+use Prim.Native.Nat.{ℕ, _≤_}
 use native.Mathlib.Omega.{arith}
 use mathlib.Core.List.{List}
-use mathlib.Core.Path.{_≡_, refl, sym, ap, ap₂, subst, _∙_}
-use Rattle.basis.specs.Lists.{raster}
+use mathlib.Core.Path.{_≡_, refl, sym, ap, subst, _∙_}
 use Rattle.record.specs.declared.MotionVector.{MotionVector}
+use Rattle.plane.specs.Corner.{cornerOf}
 use Rattle.plane.specs.Plane.{planeOf}
-use Rattle.search.specs.declared.Scored.{Scored}
-use Rattle.search.specs.Range.{window}
-use Rattle.search.specs.Sums.{Block, vectorSum}
-use Rattle.search.specs.Full.{discounted, fullWinner}
-use Rattle.search.specs.Sub.{refined}
-use Rattle.search.specs.Told.{Within, Ready, blockOf, copiedSum}
-use Rattle.search.proofs.InRange.{wider}
-use Rattle.search.proofs.Judge.{column-most, row-most}
-use Rattle.search.proofs.Windows.{window-most}
-use Rattle.search.proofs.Near.{winner-within}
-use Rattle.search.proofs.Searched.{searched}
+use Rattle.plane.specs.Source.{sourceLuma}
 use Rattle.plane.proofs.ReadySource.{luma-is}
+use Rattle.full_search.specs.declared.Target.{Target}
+use Rattle.full_search.specs.declared.Won.{Won}
+use Rattle.full_search.specs.Block.{Block, blockOf, copiedSum}
+use Rattle.full_search.specs.Costs.{discounted, zeroDiscount}
+use Rattle.full_search.specs.Full.{fullWinner}
+use Rattle.full_search.specs.Told.{Within, Ready}
+use Rattle.full_search.specs.Won.{sixteenBest, sixteenWon}
+use Rattle.full_search.proofs.Moves.{wider}
+use Rattle.full_search.proofs.Near.{winner-within}
+use Rattle.full_search.proofs.Taken.{sixteen-won}
+use Rattle.search.specs.Range.{window}
+use Rattle.search.specs.Sums.{vectorSum}
+use Rattle.search.specs.Sub.{refined}
+use Rattle.search.specs.Told.{macroblockTarget}
+use Rattle.search.proofs.Judge.{column-most, row-most}
+use Rattle.search.proofs.Searched.{searched}
 use Rattle.search.proofs.SourceBlock.{samplesOf, luma-searched}
+use Rattle.search.proofs.Windows.{window-most}
 use borrow.Author.Needs.{needs}
 use Rattle.search.proofs.one_vector.Statement.{statement}
 use Rattle.search.proofs.one_vector.Tie as tie
 
-abbrev sourceOf : tie.Start → ℕ → ℕ → ℕ
-sourceOf s = samplesOf (s .args .source .now) (s .args .size) (s .args .place)
+module _ (s : tie.Start) where
+  -- the macroblock's samples, where it stands, and both as one block
+  abbrev samplesIn : List ℕ
+  samplesIn = sourceLuma (s .args .source .now) (s .args .size) (s .args .place)
 
--- the block of these source samples
-abbrev blockAt : tie.Start → List ℕ → Block
-blockAt s l = let a = s .args in blockOf 16 l (planeOf (a .reference .now) (a .geometry)) (16 * a .place .column) (16 * a .place .row)
+  abbrev targetIn : Target
+  targetIn = macroblockTarget (s .args .geometry) (s .args .place)
 
-abbrev winnerOf : tie.Start → List ℕ → ℕ → MotionVector
-winnerOf s l w = fullWinner (discounted 128 (copiedSum (blockAt s l))) w (blockAt s l)
+  abbrev blockAt : Block
+  blockAt = blockOf samplesIn (s .args .reference .now) targetIn
+
+  abbrev costOf : MotionVector → ℕ
+  costOf = discounted zeroDiscount (copiedSum blockAt)
+
+  abbrev winner : MotionVector
+  winner = fullWinner costOf (s .args .settings .fcode) (window (s .args .settings)) blockAt
+
+  ready : (l : List ℕ) → l ≡ samplesIn → Ready l (s .args .reference .now) targetIn
+  ready = luma-searched _ _ _ _ _ _ (s .pre)
+
+  window-small : window (s .args .settings) ≤ 1023
+  window-small = window-most (s .args .settings) (s .pre .settings .fcode-usable)
+
+  winner-small : Within 4096 winner
+  winner-small =
+      wider (omega arith) (winner-within costOf (s .args .settings .fcode) (window (s .args .settings)) blockAt window-small)
 
 abbrev startAt : tie.After-luma-block → tie.Start
 startAt c = c .before .before .before .before
@@ -40,34 +64,29 @@ startAt c = c .before .before .before .before
 abbrev local : tie.After-luma-block → List ℕ
 local c = c .luma-block .last .1 .1 .1 .0
 
-copied-is : (c : tie.After-luma-block) → local c ≡ raster 16 16 (sourceOf (startAt c))
+copied-is : (c : tie.After-luma-block) → local c ≡ samplesIn (startAt c)
 copied-is c =
     let s = startAt c in
-    luma-is (s .args .source .now) (s .args .size) (s .args .place) _ _ _ (s .pre .luma) refl (c .luma-block .ensures .0) (c .luma-block .ensures .1)
+    let r = c .luma-block .ensures in
+    luma-is (s .args .source .now) (s .args .size) (s .args .place) _ _ _ (s .pre .luma) refl (r .0) (r .1)
 
-ready : (c : tie.After-luma-block) → let a = startAt c .args in Ready 16 (local c) (a .reference .now) (a .geometry) (16 * a .place .column) (16 * a .place .row)
-ready c = luma-searched _ _ _ _ _ _ _ (local c) (startAt c .pre) (copied-is c)
+abbrev lumaAt : tie.After-search-sixteen → tie.After-luma-block
+lumaAt c = c .before .before .before .before .before
 
-small : (c : tie.After-full-pel-window) → c .full-pel-window .result ≤ 1023
-small c =
-    let s = startAt (c .before .before .before .before) in
-    subst (λ (n : ℕ). n ≤ 1023) (sym (c .full-pel-window .ensures)) (window-most (s .args .mode) (s .args .fcode) (s .pre .settings .range-is))
-
-within : (c : tie.After-full-search) → Within 4096 (c .full-search .result .vector)
-within c =
+found : (c : tie.After-search-sixteen) → c .search-sixteen .result .best .vector ≡ winner (startAt (lumaAt c))
+unfolding sixteenBest
+found c =
     let w = c .before .before in
-    let l = w .before .before .before .before in
+    let l = lumaAt c in
     let s = startAt l in
-    let n = w .full-pel-window .result in
-    let b = blockAt s (local l) in
-    subst (λ (r : Scored). Within 4096 (r .vector)) (sym (c .full-search .ensures)) (wider (omega arith) (winner-within (discounted 128 (copiedSum b)) n b (small w)))
-
-won : (c : tie.After-full-search) → let s = startAt (c .before .before .before .before .before .before) in
-    c .full-search .result .vector ≡ winnerOf s (raster 16 16 (sourceOf s)) (window (s .args .mode) (s .args .fcode))
-won c =
-    let w = c .before .before in
-    let l = w .before .before .before .before in
-    ap (λ (r : Scored). r .vector) (c .full-search .ensures) ∙ ap₂ (winnerOf (startAt l)) (copied-is l) (w .full-pel-window .ensures)
+    let a = s .args in
+    let e = copied-is l in
+    let t = w .before .macroblock-target .ensures in
+    let n = w .full-pel-window .ensures in
+    let r = ready s (samplesIn s) refl in
+    ap (λ (r : Won). r .best .vector)
+    (c .search-sixteen .ensures ∙ (λ i. sixteenWon (e i) (a .reference .now) (t i) (a .settings .fcode) (n i))
+    ∙ sixteen-won (samplesIn s) (a .reference .now) (targetIn s) (window (a .settings)) (a .settings .fcode) r refl (window-small s))
 
 slice-aggregate-luma-block : tie.Need-slice-aggregate-luma-block
 slice-aggregate-luma-block c = search needs
@@ -75,20 +94,19 @@ slice-aggregate-luma-block c = search needs
 luma-block-requires : tie.Need-luma-block-requires
 luma-block-requires c κs = search needs
 
-mul-x : tie.Need-mul-x
-mul-x c = omega (arith, column-most _ _ _ (c .before .before .before .before .before .before .pre .luma))
-
-mul-y : tie.Need-mul-y
-mul-y c = omega (arith, row-most _ _ _ (c .before .before .before .before .before .before .before .pre .luma))
+macroblock-target-requires : tie.Need-macroblock-target-requires
+macroblock-target-requires c κs =
+    let s = startAt (c .before) in
+    (column-most _ _ _ (s .pre .luma), row-most _ _ _ (s .pre .luma))
 
 full-pel-window-requires : tie.Need-full-pel-window-requires
 full-pel-window-requires c κs = search needs
 
-slice-aggregate-full-search : tie.Need-slice-aggregate-full-search
-slice-aggregate-full-search c = search needs
+slice-aggregate-search-sixteen : tie.Need-slice-aggregate-search-sixteen
+slice-aggregate-search-sixteen c = search needs
 
-full-search-requires : tie.Need-full-search-requires
-full-search-requires c κs = (ready (c .before .before .before .before .before), small (c .before))
+search-sixteen-requires : tie.Need-search-sixteen-requires
+search-sixteen-requires c κs = search needs
 
 slice-aggregate-refine-subpel : tie.Need-slice-aggregate-refine-subpel
 slice-aggregate-refine-subpel c = search needs
@@ -96,19 +114,27 @@ slice-aggregate-refine-subpel c = search needs
 refine-subpel-requires : tie.Need-refine-subpel-requires
 refine-subpel-requires c κs =
     let f = c .before .before in
-    let l = f .before .before .before .before .before .before in
-    (ready l, startAt l .pre .settings, within f)
+    let l = lumaAt f in
+    let s = startAt l in
+    let t = f .before .before .before .macroblock-target .ensures in (
+      subst (Ready (local l) (s .args .reference .now)) (sym t) (ready s (local l) (copied-is l)),
+      s .pre .settings,
+      subst (Within 4096) (sym (found f)) (winner-small s),
+    )
 
 returns : tie.Need-returns
 returns c =
     let f = c .before .before .before in
-    let l = f .before .before .before .before .before .before in
+    let l = lumaAt f in
     let s = startAt l in
     let a = s .args in
-    let d = f .full-search .result .vector in
+    let p = planeOf (a .reference .now) (a .geometry) in
+    let d = f .search-sixteen .result .best .vector in
+    let e = copied-is l in
+    let t = f .before .before .before .macroblock-target .ensures in
     c .refine-subpel .ensures
-    ∙ ap (λ (x : List ℕ). refined (vectorSum (a .mode) (blockAt s x)) (a .mode) (a .fcode) d) (copied-is l)
-    ∙ searched (a .mode) (a .fcode) (sourceOf s) (planeOf (a .reference .now) (a .geometry)) (16 * a .place .column) (16 * a .place .row) d (won f)
+    ∙ (λ i. refined (vectorSum (a .settings) (blockOf (e i) (a .reference .now) (t i))) (a .settings) d)
+    ∙ searched (a .settings) (samplesOf (a .source .now) (a .size) (a .place)) p (cornerOf (a .place)) d (found f)
 
 pub one-vector-spec : {M : Type 1} → statement M
 one-vector-spec =
@@ -116,11 +142,10 @@ one-vector-spec =
     (tie.spec
     slice-aggregate-luma-block
     luma-block-requires
-    mul-x
-    mul-y
+    macroblock-target-requires
     full-pel-window-requires
-    slice-aggregate-full-search
-    full-search-requires
+    slice-aggregate-search-sixteen
+    search-sixteen-requires
     slice-aggregate-refine-subpel
     refine-subpel-requires
     returns)

@@ -1,6 +1,6 @@
 -- `search::search_reply` meets its contract. Assumes nothing.
 use Rattle.refusal.proofs.Replies.{joined}
-use Rattle.search.specs.Estimate.{searchReply}
+use Rattle.search.specs.Request.{searchReply}
 use borrow.Author.Needs.{needs}
 use Rattle.search.proofs.search_reply.Statement.{statement}
 use Rattle.search.proofs.search_reply.Tie as tie

@@ -4,7 +4,7 @@ use mathlib.Core.Path.{ap, _∙_}
 use Rattle.refusal.specs.declared.Refusal.the-variants.{Seed}
 use Rattle.refusal.specs.declared.Reply.the-variants.{Done}
 use Rattle.refusal.specs.Reply.{unless}
-use Rattle.search.specs.Estimate.{seedReply}
+use Rattle.search.specs.Request.{seedReply}
 use borrow.Author.Needs.{needs}
 use Rattle.search.proofs.seed_reply.Statement.{statement}
 use Rattle.search.proofs.seed_reply.Tie as tie

@@ -1,5 +1,5 @@
 -- `search::settings_reply` meets its contract. Assumes nothing.
-use Rattle.search.specs.Estimate.{settingsReply}
+use Rattle.search.specs.Request.{settingsReply}
 use borrow.Author.Needs.{needs}
 use Rattle.search.proofs.settings_reply.Statement.{statement}
 use Rattle.search.proofs.settings_reply.Tie as tie

@@ -7,7 +7,7 @@ use borrow.Fn.Kinds.{In}
 use borrow.Fn.PlainCycle.{Measures, is, falls, and}
 use Rattle.clip.specs.declared.Text.{Text}
 use Rattle.clip.specs.Decimal.{decimal}
-use Rattle.clip.specs.Push.{pushed, pushes}
+use Rattle.clip.specs.ToldPush.{pushed, pushes}
 use Rattle.clip.proofs.Digits.{decimal-one, decimal-more}
 use Rattle.clip.proofs.Texts.{pushes-append}
 use Rattle.clip.proofs.write.number.Reads as number

@@ -3,7 +3,7 @@ use mathlib.Core.Path.{sym}
 use borrow.Author.Needs.{needs}
 use borrow.Author.Tests.{lt-ltb, le-ltb}
 use Rattle.basis.proofs.Case.{then, else}
-use Rattle.clip.specs.Push.{pushed}
+use Rattle.clip.specs.ToldPush.{pushed}
 use Rattle.clip.proofs.write.push.Statement.{statement}
 use Rattle.clip.proofs.write.push.Tie as tie
 

@@ -5,7 +5,7 @@ use mathlib.Core.Path.{_≡_, refl, ap, _∙_}
 use lib.ListN.{length, take, getD}
 use lib.Seq.{take-all}
 use Rattle.clip.specs.declared.Text.{Text}
-use Rattle.clip.specs.Push.{pushed, pushes}
+use Rattle.clip.specs.ToldPush.{pushed, pushes}
 use Rattle.clip.proofs.Texts.{pushes-more}
 use Rattle.clip.proofs.write.put_bytes.Statement.{statement}
 use Rattle.clip.proofs.write.put_bytes.Tie as tie

@@ -9,7 +9,7 @@ use mir.ValLaws.{toZ-ofZ}
 use borrow.Author.Needs.{needs}
 use Rattle.clip.specs.declared.Text.{Text}
 use Rattle.clip.specs.Decimal.{decimal}
-use Rattle.clip.specs.Push.{pushed, pushes}
+use Rattle.clip.specs.ToldPush.{pushed, pushes}
 use Rattle.clip.proofs.Digits.{minus-first, no-minus}
 use Rattle.clip.proofs.write.signed.Statement.{statement}
 use Rattle.clip.proofs.write.signed.Tie as tie
@@ -20,11 +20,14 @@ read s = toZ-ofZ w32 (s .args .x) (s .fits .x)
 test-is : (s : tie.Start) → ltZ (s .args .x) (pos 0) ≡ ltZ (toZ w32 (ofZ w32 (s .args .x))) (pos 0)
 test-is s = ap (λ (z : ℤ). ltZ z (pos 0)) (sym (read s))
 
-size-is : (c : tie.After-size) → c .size .result ≡ natAbs (c .before .args .x)
-size-is c = c .size .ensures ∙ ap natAbs (read (c .before))
+size-is : (c : tie.After-wide32) → c .wide32 .result ≡ natAbs (c .before .before .args .x)
+size-is c = c .wide32 .ensures .0 ∙ c .before .magnitude .ensures ∙ ap natAbs (read (c .before .before))
 
-size-requires : tie.Need-size-requires
-size-requires c κs = search needs
+magnitude-requires : tie.Need-magnitude-requires
+magnitude-requires c κs = search needs
+
+wide32-requires : tie.Need-wide32-requires
+wide32-requires c κs = search needs
 
 push-requires : tie.Need-push-requires
 push-requires c κs = search needs
@@ -36,8 +39,8 @@ returns : tie.Need-returns
 unfolding pushes
 returns c =
     let t = c .before .before in
-    let s = t .before .before in
-    let n = t .before .size .result in
+    let s = t .before .before .before in
+    let n = t .before .wide32 .result in
     c .number .ensures
     ∙ ap (λ (t : Text). pushes t (decimal n)) (c .before .push .ensures)
     ∙ ap (λ (n : ℕ). pushes (pushed (s .args .start) 45) (decimal n)) (size-is (t .before))
@@ -49,7 +52,7 @@ number-requires-2 c κs = search needs
 returns-2 : tie.Need-returns-2
 returns-2 c =
     let e = c .before in
-    let s = e .before .before in
+    let s = e .before .before .before in
     c .number2 .ensures
     ∙ ap (λ (n : ℕ). pushes (s .args .start) (decimal n)) (size-is (e .before))
     ∙ ap (pushes (s .args .start)) (sym (no-minus (s .args .x) (test-is s ∙ e .if1 .left)))
@@ -57,4 +60,4 @@ returns-2 c =
 pub signed-spec : {M : Type 1} → statement M
 signed-spec =
     tie.close
-    (tie.spec size-requires push-requires number-requires returns number-requires-2 returns-2)
+    (tie.spec magnitude-requires wide32-requires push-requires number-requires returns number-requires-2 returns-2)

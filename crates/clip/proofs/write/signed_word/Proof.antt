@@ -6,7 +6,7 @@ use mir.ValLaws.{toZ-ofZ}
 use borrow.Author.Needs.{needs}
 use Rattle.clip.specs.declared.Text.{Text}
 use Rattle.clip.specs.Decimal.{decimalZ}
-use Rattle.clip.specs.Push.{pushes}
+use Rattle.clip.specs.ToldPush.{pushes}
 use Rattle.clip.proofs.Lines.{word-is}
 use Rattle.clip.proofs.write.signed_word.Statement.{statement}
 use Rattle.clip.proofs.write.signed_word.Tie as tie

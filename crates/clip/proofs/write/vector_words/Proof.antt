@@ -6,7 +6,7 @@ use borrow.Author.Needs.{needs}
 use Rattle.basis.proofs.Signed.{of-bits}
 use Rattle.clip.specs.Decimal.{decimalZ}
 use Rattle.clip.specs.Line.{spaced}
-use Rattle.clip.specs.Push.{pushes}
+use Rattle.clip.specs.ToldPush.{pushes}
 use Rattle.clip.proofs.Lines.{spaced-more}
 use Rattle.clip.proofs.write.vector_words.Statement.{statement}
 use Rattle.clip.proofs.write.vector_words.Tie as tie

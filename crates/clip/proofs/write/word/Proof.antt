@@ -3,7 +3,7 @@ use mathlib.Core.Path.{ap, _∙_}
 use borrow.Author.Needs.{needs}
 use Rattle.clip.specs.declared.Text.{Text}
 use Rattle.clip.specs.Decimal.{decimal}
-use Rattle.clip.specs.Push.{pushes}
+use Rattle.clip.specs.ToldPush.{pushes}
 use Rattle.clip.proofs.Lines.{word-is}
 use Rattle.clip.proofs.write.word.Statement.{statement}
 use Rattle.clip.proofs.write.word.Tie as tie

@@ -1,10 +1,8 @@
 -- `coding::events::quantise_inter_block` meets its contract. Assumes nothing.
-use Prim.Native.Nat.{ℕ}
 use mathlib.Core.List.{List}
 use mathlib.Core.Path.{_≡_, refl, ap, _∙_}
 use lib.IntN.{ℤ}
 use lib.ListN.{length}
-use Rattle.refusal.specs.declared.Reply.{Reply}
 use Rattle.refusal.proofs.Replies.{left}
 use Rattle.fdct.specs.Block.{coefficients}
 use Rattle.quantise.specs.Block.{blockLevels, quantiseReply}
@@ -19,8 +17,8 @@ use borrow.Author.Needs.{needs}
 use Rattle.coding.proofs.events.quantise_inter_block.Statement.{statement}
 use Rattle.coding.proofs.events.quantise_inter_block.Tie as tie
 
-abbrev howOf : tie.Start → Quantising
-howOf s = quantisingOf (s .args .quantiser) (s .args .first-method) (s .args .weights .now) (s .args .scan)
+abbrev quantisingAt : tie.Start → Quantising
+quantisingAt s = quantisingOf (s .args .quantiser) (s .args .first-method) (s .args .weights .now) (s .args .scan)
 
 abbrev blockIn : tie.Start → List ℤ
 blockIn s = s .args .residual .now
@@ -35,23 +33,26 @@ transformed-is c =
     let e = c .forward-dct-8x8 .ensures in
     left _ _ _ _ _ (e .0) (transform-done (blockIn s) (s .pre .long) (s .pre .small)) (e .1)
 
-quantised-is : (c : tie.After-quantise-block) → let s = startAt (c .before .before .before .before) in c .quantise-block .last .1 .1 .1 .1 .0 ≡ quantised (howOf s) (blockIn s)
+quantised-is : (c : tie.After-quantise-block) → let s = startAt (c .before .before .before .before) in
+    c .quantise-block .last .1 .1 .1 .1 .0 ≡ quantised (quantisingAt s) (blockIn s)
 unfolding quantised
 quantised-is c =
     let t = c .before .before .before .before in
     let s = startAt t in
-    let h = howOf s in
+    let h = quantisingAt s in
     let e = c .quantise-block .ensures in
     left _ _ _ _ _ (e .0)
-    (ap (λ (l : List ℤ). quantiseReply l (h .quantiser) (h .first) (h .weights) 64) (transformed-is t) ∙ quantise-done h (s .pre .quantisable) (blockIn s)) (e .1 .0)
+    (ap (λ (l : List ℤ). quantiseReply l (h .quantiser) (h .first) (h .weights) 64) (transformed-is t)
+    ∙ quantise-done h (s .pre .quantisable) (blockIn s))
+    (e .1 .0)
     ∙ ap (blockLevels (h .first) (h .quantiser) (h .weights)) (transformed-is t)
 
 scanned-is : (c : tie.After-forward-scan) → let s = startAt (c .before .before .before .before .before .before .before .before) in
-    c .forward-scan .last .1 .1 .0 ≡ inScan (howOf s) (blockIn s)
+    c .forward-scan .last .1 .1 .0 ≡ inScan (quantisingAt s) (blockIn s)
 scanned-is c =
     let t = c .before .before .before .before in
     let s = startAt (t .before .before .before .before) in
-    let h = howOf s in
+    let h = quantisingAt s in
     let e = c .forward-scan .ensures in
     left _ _ _ _ _ (e .0) (ap (λ (l : List ℤ). scanReply l (h .scan) 64) (quantised-is t) ∙ scan-done h (s .pre .quantisable) (blockIn s)) (e .1 .0)
     ∙ ap (scanned (gridOf (h .scan))) (quantised-is t)
@@ -100,7 +101,7 @@ returns c =
     let v = c .before .before .before .before .before in
     let n = v .before .before .before .before .before .before in
     let s = startAt (n .before .before .before .before .before .before .before .before) in
-    let h = howOf s in
+    let h = quantisingAt s in
     let l = n .forward-scan .last .1 .1 .0 in
     let is = scanned-is n in
     let e = v .levels-to-events .ensures in

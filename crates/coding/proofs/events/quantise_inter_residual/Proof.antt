@@ -1,31 +1,28 @@
 -- `coding::events::quantise_inter_residual` meets its contract. Assumes nothing.
-use borrow.Author.Needs.{needs}
-use Prim.Native.Nat.{ℕ, _-_, _*_, _<_}
+use Prim.Native.Nat.{_-_}
 use native.Mathlib.Omega.{arith}
-use mathlib.Core.List.{List}
-use mathlib.Core.Path.{_≡_, refl, sym, _∙_}
-use lib.ListN.{length, length-take, length-drop}
-use Rattle.basis.proofs.Slices.{part-length}
+use mathlib.Core.Path.{refl, sym, _∙_}
+use lib.ListN.{length-take, length-drop}
 use Rattle.coding.specs.Coding.{Quantising, quantisingOf}
-use Rattle.coding.proofs.Filling.{Coded, coded-none, coded-more, coded-end, part-in-range}
+use Rattle.coding.proofs.Filling.{CodedSoFar, coded-none, coded-more, coded-end, part-in-range}
 use Rattle.coding.proofs.events.quantise_inter_residual.Statement.{statement}
 use Rattle.coding.proofs.events.quantise_inter_residual.Tie as tie
 
 abbrev Inv-loop : tie.InvT-loop
 Inv-loop residual quantiser first-method weights scan lasts₀ runs₀ levels₀ counts₀ b₀ lasts runs levels counts b =
-    Coded (quantisingOf quantiser first-method weights scan) residual lasts₀ runs₀ levels₀ counts₀ lasts runs levels counts b
+    CodedSoFar (quantisingOf quantiser first-method weights scan) residual lasts₀ runs₀ levels₀ counts₀ lasts runs levels counts b
 
 abbrev μ-loop : tie.MeasureT-loop
 μ-loop residual quantiser first-method weights scan lasts₀ runs₀ levels₀ counts₀ b₀ lasts runs levels counts b =
     6 - b
 
-abbrev howOf : tie.Start Inv-loop μ-loop → Quantising
-howOf s = quantisingOf (s .args .quantiser) (s .args .first-method) (s .args .weights .now) (s .args .scan)
+abbrev quantisingAt : tie.Start Inv-loop μ-loop → Quantising
+quantisingAt s = quantisingOf (s .args .quantiser) (s .args .first-method) (s .args .weights .now) (s .args .scan)
 
 loop-holds : tie.Need-loop-holds Inv-loop μ-loop
 loop-holds c =
     let s = c .before .before .before in
-    coded-none (howOf s) (s .args .residual .now) _ _ _ _ (s .pre .lasts-long) (s .pre .runs-long) (s .pre .levels-long) refl
+    coded-none (quantisingAt s) (s .args .residual .now) _ _ _ _ (s .pre .lasts-long) (s .pre .runs-long) (s .pre .levels-long) refl
 
 mul-from : tie.Need-mul-from Inv-loop μ-loop
 mul-from c = omega arith
@@ -79,15 +76,14 @@ quantise-inter-block-requires : tie.Need-quantise-inter-block-requires Inv-loop 
 quantise-inter-block-requires c κs =
     let l = c .before .before .before .before .before in
     let s = l .before .before .before .before in
-    let b = l .loop .b in
     let i = l .loop .inv in
     record {
       quantisable = s .pre .quantisable;
-      long = part-length (s .args .residual .now) (b * 64) 64 (omega (arith, s .pre .long));
-      small = part-in-range (s .args .residual .now) b (omega arith) (s .pre .small);
-      lasts-long = part-length (l .loop .lasts) (b * 64) 64 (omega (arith, i .in-lasts .long));
-      runs-long = part-length (l .loop .runs) (b * 64) 64 (omega (arith, i .in-runs .long));
-      levels-long = part-length (l .loop .levels) (b * 64) 64 (omega (arith, i .in-levels .long));
+      long = simp (length-take, length-drop) (omega (arith, s .pre .long));
+      small = search (part-in-range (s .args .residual .now) (s .pre .long) (s .pre .small));
+      lasts-long = simp (length-take, length-drop) (omega (arith, i .in-lasts .long));
+      runs-long = simp (length-take, length-drop) (omega (arith, i .in-runs .long));
+      levels-long = simp (length-take, length-drop) (omega (arith, i .in-levels .long));
     }
 
 array-write-counts : tie.Need-array-write-counts Inv-loop μ-loop
@@ -104,7 +100,7 @@ loop-again c =
     let d = c .before .before .before .before .before in
     let l = d .before .before .before .before .before .before in
     let s = l .before .before .before .before in
-    coded-more (howOf s) (s .args .residual .now) _ _ _ _
+    coded-more (quantisingAt s) (s .args .residual .now) _ _ _ _
     (l .loop .lasts) (l .loop .runs) (l .loop .levels) (l .loop .counts) (l .loop .b) (l .loop .inv) _ _ _ _ (omega arith)
     (d .quantise-inter-block .ensures .0) (d .quantise-inter-block .ensures .1)
 
@@ -121,7 +117,8 @@ returns : tie.Need-returns Inv-loop μ-loop
 returns c =
     let l = c .before in
     let s = l .before .before .before .before in
-    coded-end (howOf s) (s .args .residual .now) _ _ _ _ (l .loop .lasts) (l .loop .runs) (l .loop .levels) (l .loop .counts) (l .loop .b) (l .loop .inv) (omega arith)
+    coded-end (quantisingAt s) (s .args .residual .now) _ _ _ _
+    (l .loop .lasts) (l .loop .runs) (l .loop .levels) (l .loop .counts) (l .loop .b) (l .loop .inv) (omega arith)
 
 pub quantise-inter-residual-spec : {M : Type 1} → statement M
 quantise-inter-residual-spec =

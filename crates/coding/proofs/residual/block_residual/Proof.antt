@@ -7,11 +7,11 @@ use borrow.Author.Needs.{needs}
 use Rattle.coding.proofs.residual.block_residual.Statement.{statement}
 use Rattle.coding.proofs.residual.block_residual.Tie as tie
 
-abbrev sourceOf : tie.Start → Samples
-sourceOf s = samples (s .args .y .now) (s .args .cb .now) (s .args .cr .now)
+abbrev sourceIn : tie.Start → Samples
+sourceIn s = samples (s .args .y .now) (s .args .cb .now) (s .args .cr .now)
 
-abbrev lentOf : tie.Start → Samples
-lentOf s = samples (s .args .pred-y .now) (s .args .pred-cb .now) (s .args .pred-cr .now)
+abbrev lentIn : tie.Start → Samples
+lentIn s = samples (s .args .pred-y .now) (s .args .pred-cb .now) (s .args .pred-cr .now)
 
 luma-residual-requires : tie.Need-luma-residual-requires
 luma-residual-requires c κs = search needs
@@ -24,7 +24,7 @@ returns c =
     let t = c .before .before .before in
     let s = t .before .before .before .before .before .before .before in
     let e = c .before .luma-residual .ensures in
-    (e .0 ∙ luma-block (sourceOf s) (lentOf s) (s .args .b) (lt-ltb _ _ (t .if1 .taken)), e .1)
+    (e .0 ∙ luma-block (sourceIn s) (lentIn s) (s .args .b) (lt-ltb _ _ (t .if1 .taken)), e .1)
 
 chroma-residual-requires : tie.Need-chroma-residual-requires
 chroma-residual-requires c κs = search needs
@@ -38,7 +38,7 @@ returns-2 c =
     let f = t .before in
     let s = f .before .before .before .before .before .before .before in
     let e = c .before .chroma-residual .ensures in
-    (e .0 ∙ blue-block (sourceOf s) (lentOf s) (s .args .b) (le-ltb _ _ (f .if1 .left)) (eq-eqb _ _ (t .if2 .taken)), e .1)
+    (e .0 ∙ blue-block (sourceIn s) (lentIn s) (s .args .b) (le-ltb _ _ (f .if1 .left)) (eq-eqb _ _ (t .if2 .taken)), e .1)
 
 chroma-residual-requires-2 : tie.Need-chroma-residual-requires-2
 chroma-residual-requires-2 c κs = search needs
@@ -52,7 +52,7 @@ returns-3 c =
     let f = t .before in
     let s = f .before .before .before .before .before .before .before in
     let e = c .before .chroma-residual2 .ensures in
-    (e .0 ∙ red-block (sourceOf s) (lentOf s) (s .args .b) (le-ltb _ _ (f .if1 .left)) (ne-eqb _ _ (t .if2 .left)), e .1)
+    (e .0 ∙ red-block (sourceIn s) (lentIn s) (s .args .b) (le-ltb _ _ (f .if1 .left)) (ne-eqb _ _ (t .if2 .left)), e .1)
 
 pub block-residual-spec : {M : Type 1} → statement M
 block-residual-spec =

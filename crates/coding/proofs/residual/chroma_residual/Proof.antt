@@ -3,13 +3,13 @@ use borrow.Author.Needs.{needs}
 use Prim.Native.Nat.{ℕ, _-_}
 use native.Mathlib.Omega.{arith}
 use mathlib.Core.Bool.{true}
-use mathlib.Core.Path.{_≡_, refl, sym, ap, ap₂, subst, _∙_}
+use mathlib.Core.Path.{_≡_, sym, subst, _∙_}
 use mathlib.Core.List.{List}
 use lib.IntN.{ℤ, pos, negsuc, _-ℤ_}
-use lib.ListN.{length, getD}
+use lib.ListN.{getD}
 use Rattle.basis.proofs.Signed.{of-bits}
 use Rattle.refusal.specs.Test.{inRange}
-use Rattle.coding.proofs.Differences.{Stored, stored-none, stored-more, stored-end}
+use Rattle.coding.proofs.Differences.{ResidualSoFar, stored-none, stored-more, stored-end}
 use Rattle.coding.proofs.residual.chroma_residual.Statement.{statement}
 use Rattle.coding.proofs.residual.chroma_residual.Tie as tie
 
@@ -17,7 +17,7 @@ abbrev lessAt : List ℕ → List ℕ → ℕ → ℤ
 lessAt source prediction k = pos (getD source k 0) -ℤ pos (getD prediction k 0)
 
 abbrev Inv-loop : tie.InvT-loop
-Inv-loop source prediction out₀ k₀ out k = Stored (lessAt source prediction) out₀ out k
+Inv-loop source prediction out₀ k₀ out k = ResidualSoFar (lessAt source prediction) out₀ out k
 
 abbrev μ-loop : tie.MeasureT-loop
 μ-loop source prediction out₀ k₀ out k = 64 - k

@@ -1,15 +1,15 @@
 -- `coding::residual::luma_residual` meets its contract. Assumes nothing.
 use borrow.Author.Needs.{needs}
-use Prim.Native.Nat.{ℕ, _+_, _-_, _*_, _/_, _%_}
+use Prim.Native.Nat.{ℕ, _-_}
 use native.Mathlib.Omega.{arith}
 use mathlib.Core.Bool.{true}
-use mathlib.Core.Path.{_≡_, refl, sym, ap, ap₂, subst, _∙_}
+use mathlib.Core.Path.{_≡_, sym, ap₂, subst, _∙_}
 use mathlib.Core.List.{List}
 use lib.IntN.{ℤ, pos, negsuc, _-ℤ_}
-use lib.ListN.{length, getD}
+use lib.ListN.{getD}
 use Rattle.basis.proofs.Signed.{of-bits}
 use Rattle.refusal.specs.Test.{inRange}
-use Rattle.coding.proofs.Differences.{Stored, stored-none, stored-more, stored-end, eight-at}
+use Rattle.coding.proofs.Differences.{ResidualSoFar, stored-none, stored-more, stored-end, eight-at}
 use Rattle.plane.specs.Source.{eightOf}
 use Rattle.coding.proofs.residual.luma_residual.Statement.{statement}
 use Rattle.coding.proofs.residual.luma_residual.Tie as tie
@@ -18,7 +18,7 @@ abbrev lessAt : List ℕ → List ℕ → ℕ → ℕ → ℤ
 lessAt source prediction n k = pos (getD (eightOf source n) k 0) -ℤ pos (getD (eightOf prediction n) k 0)
 
 abbrev Inv-loop : tie.InvT-loop
-Inv-loop source prediction n out₀ row column k₀ out k = Stored (lessAt source prediction n) out₀ out k
+Inv-loop source prediction n out₀ row column k₀ out k = ResidualSoFar (lessAt source prediction n) out₀ out k
 
 abbrev μ-loop : tie.MeasureT-loop
 μ-loop source prediction n out₀ row column k₀ out k = 64 - k
@@ -30,7 +30,7 @@ mul-column : tie.Need-mul-column Inv-loop μ-loop
 mul-column c = search needs
 
 loop-holds : tie.Need-loop-holds Inv-loop μ-loop
-loop-holds c = stored-none _ _ (c .before .before .pre .3)
+loop-holds c = stored-none _ _ (c .before .before .pre .area-long)
 
 add-at : tie.Need-add-at Inv-loop μ-loop
 add-at c = search needs
@@ -45,10 +45,10 @@ add-at-3 : tie.Need-add-at-3 Inv-loop μ-loop
 add-at-3 c = search needs
 
 shared-slice-read-difference : tie.Need-shared-slice-read-difference Inv-loop μ-loop
-shared-slice-read-difference c = let s = c .before .before .before .before .before in omega (arith, s .pre .0, s .pre .2)
+shared-slice-read-difference c = let s = c .before .before .before .before .before in omega (arith, s .pre .source-long, s .pre .of-four)
 
 shared-slice-read-difference-2 : tie.Need-shared-slice-read-difference-2 Inv-loop μ-loop
-shared-slice-read-difference-2 c = let s = c .before .before .before .before .before .before in omega (arith, s .pre .1, s .pre .2)
+shared-slice-read-difference-2 c = let s = c .before .before .before .before .before .before in omega (arith, s .pre .prediction-long, s .pre .of-four)
 
 difference-requires : tie.Need-difference-requires Inv-loop μ-loop
 difference-requires c κs = search needs
@@ -73,7 +73,10 @@ loop-again c =
     let k = l .loop .k in
     let e = of-bits _ (c .difference .ok) in
     stored-more (lessAt (s .args .source .now) (s .args .prediction .now) n) (s .args .out .now) (l .loop .out) k _ (l .loop .inv) (omega arith)
-    (e ∙ c .difference .ensures .0 ∙ sym (ap₂ (λ (a b : ℕ). pos a -ℤ pos b) (eight-at (s .args .source .now) n k (omega arith)) (eight-at (s .args .prediction .now) n k (omega arith))))
+    (e
+    ∙ c .difference .ensures .0
+    ∙ sym
+    (ap₂ (λ (a b : ℕ). pos a -ℤ pos b) (eight-at (s .args .source .now) n k (omega arith)) (eight-at (s .args .prediction .now) n k (omega arith))))
     (subst (λ (z : ℤ). inRange (negsuc 254) (pos 255) z ≡ true) (sym e) (c .difference .ensures .1))
 
 same-length : tie.Need-same-length Inv-loop μ-loop

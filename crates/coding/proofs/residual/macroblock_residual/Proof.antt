@@ -2,7 +2,7 @@
 use Prim.Native.Nat.{ℕ}
 use mathlib.Core.List.{List}
 use mathlib.Core.Path.{_≡_, refl, ap, ap₂, _∙_}
-use Rattle.plane.specs.Source.{lumaBlock, chromaBlock}
+use Rattle.plane.specs.Source.{sourceLuma, sourceChroma}
 use Rattle.coding.specs.Residual.{samples, residualOf}
 use Rattle.plane.proofs.ReadySource.{luma-alone, blue-alone, red-alone, luma-is, chroma-is}
 use borrow.Author.Needs.{needs}
@@ -13,21 +13,22 @@ use Rattle.coding.proofs.residual.macroblock_residual.Tie as tie
 abbrev startAt : tie.After-luma-block → tie.Start
 startAt c = c .before .before .before .before .before .before .before .before
 
-luma-copied : (c : tie.After-luma-block) → let a = startAt c .args in c .luma-block .last .1 .1 .1 .0 ≡ lumaBlock (a .y .now) (a .size) (a .place)
+luma-copied : (c : tie.After-luma-block) → let a = startAt c .args in
+    c .luma-block .last .1 .1 .1 .0 ≡ sourceLuma (a .y .now) (a .size) (a .place)
 luma-copied c =
     let s = startAt c in
     let a = s .args in
     luma-is (a .y .now) (a .size) (a .place) _ _ _ (luma-alone _ _ _ _ _ (s .pre .source)) refl (c .luma-block .ensures .0) (c .luma-block .ensures .1)
 
 blue-copied : (c : tie.After-chroma-block) → let a = startAt (c .before .before .before) .args in
-    c .chroma-block .last .1 .1 .1 .0 ≡ chromaBlock (a .cb .now) (a .size) (a .place)
+    c .chroma-block .last .1 .1 .1 .0 ≡ sourceChroma (a .cb .now) (a .size) (a .place)
 blue-copied c =
     let s = startAt (c .before .before .before) in
     let a = s .args in
     chroma-is (a .cb .now) (a .size) (a .place) _ _ _ (blue-alone _ _ _ _ _ (s .pre .source)) refl (c .chroma-block .ensures .0) (c .chroma-block .ensures .1)
 
 red-copied : (c : tie.After-chroma-block2) → let a = startAt (c .before .before .before .before .before .before) .args in
-    c .chroma-block2 .last .1 .1 .1 .0 ≡ chromaBlock (a .cr .now) (a .size) (a .place)
+    c .chroma-block2 .last .1 .1 .1 .0 ≡ sourceChroma (a .cr .now) (a .size) (a .place)
 red-copied c =
     let s = startAt (c .before .before .before .before .before .before) in
     let a = s .args in
@@ -73,10 +74,12 @@ returns c =
     let l = b .before .before .before in
     let a = startAt l .args in
     let p = samples (a .pred-y .now) (a .pred-cb .now) (a .pred-cr .now) in
+    let luma = sourceLuma (a .y .now) (a .size) (a .place) in
+    let blue = sourceChroma (a .cb .now) (a .size) (a .place) in
     let e = c .before .six-residuals .ensures in (
       e .0
           ∙ ap₂ (λ (x y : List ℕ). residualOf (samples x y (r .chroma-block2 .last .1 .1 .1 .0)) p) (luma-copied l) (blue-copied b)
-          ∙ ap (λ (z : List ℕ). residualOf (samples (lumaBlock (a .y .now) (a .size) (a .place)) (chromaBlock (a .cb .now) (a .size) (a .place)) z) p) (red-copied r),
+          ∙ ap (λ (z : List ℕ). residualOf (samples luma blue z) p) (red-copied r),
       e .1,
     )
 

@@ -1,16 +1,14 @@
 -- `coding::residual::six_residuals` meets its contract. Assumes nothing.
 use borrow.Author.Count.{below-more}
-use borrow.Author.Needs.{needs}
-use Prim.Native.Nat.{ℕ, _+_, _-_, _*_, _≤_, _<_}
+use Prim.Native.Nat.{ℕ, _-_, _≤_, _<_}
 use native.Mathlib.Omega.{arith}
 use mathlib.Core.List.{List}
-use mathlib.Core.Path.{_≡_, refl, sym, ap, subst, _∙_}
+use mathlib.Core.Path.{_≡_, sym, subst}
 use lib.IntN.{ℤ}
 use lib.ListN.{length, length-take, length-drop}
 use Rattle.basis.proofs.Lists.{laid, laid-none, laid-put, laid-end}
 use Rattle.basis.specs.Lists.{rows}
-use Rattle.coding.specs.Residual.{Samples, samples, samplesOf, residualOf}
-use Rattle.coding.specs.Told.{ResidualRange}
+use Rattle.coding.specs.Residual.{Samples, samples, samplesOf, residualOf, ResidualRange}
 use Rattle.coding.proofs.SixBlocks.{residualAt, block-length, six-in-range}
 use Rattle.coding.proofs.residual.six_residuals.Statement.{statement}
 use Rattle.coding.proofs.residual.six_residuals.Tie as tie
@@ -23,12 +21,18 @@ Inv-loop y cb cr pred-y pred-cb pred-cr out₀ b₀ out b =
 abbrev μ-loop : tie.MeasureT-loop
 μ-loop y cb cr pred-y pred-cb pred-cr out₀ b₀ out b = 6 - b
 
--- block b of the residual
+-- the two macroblocks' samples, and block b of their residual
+abbrev sourceIn : tie.Start Inv-loop μ-loop → Samples
+sourceIn s = samples (s .args .y .now) (s .args .cb .now) (s .args .cr .now)
+
+abbrev lentIn : tie.Start Inv-loop μ-loop → Samples
+lentIn s = samples (s .args .pred-y .now) (s .args .pred-cb .now) (s .args .pred-cr .now)
+
 abbrev rowOf : tie.Start Inv-loop μ-loop → ℕ → List ℤ
-rowOf s = residualAt (samples (s .args .y .now) (s .args .cb .now) (s .args .cr .now)) (samples (s .args .pred-y .now) (s .args .pred-cb .now) (s .args .pred-cr .now))
+rowOf s = residualAt (sourceIn s) (lentIn s)
 
 row-length : (s : tie.Start Inv-loop μ-loop) (b : ℕ) → length (rowOf s b) ≡ 64
-row-length s b = block-length (samplesOf (samples (s .args .y .now) (s .args .cb .now) (s .args .cr .now)) b) (samplesOf (samples (s .args .pred-y .now) (s .args .pred-cb .now) (s .args .pred-cr .now)) b)
+row-length s b = block-length (samplesOf (sourceIn s) b) (samplesOf (lentIn s) b)
 
 loop-holds : tie.Need-loop-holds Inv-loop μ-loop
 loop-holds c =
@@ -90,7 +94,8 @@ returns c =
     let s = l .before .before .before .before .before .before .before in
     let r = rowOf s in
     let six : l .loop .b ≡ 6 = omega arith in
-    let e : l .loop .out ≡ rows 6 r = laid-end 64 r (row-length s) 6 (l .loop .b) (s .args .out .now) (l .loop .out) (l .loop .inv .3) six (l .loop .inv .1) in
+    let e : l .loop .out ≡ rows 6 r =
+    laid-end 64 r (row-length s) 6 (l .loop .b) (s .args .out .now) (l .loop .out) (l .loop .inv .3) six (l .loop .inv .1) in
     (e, subst (ResidualRange 384) (sym e) (six-in-range r (row-length s) (λ b h. l .loop .inv .4 b (omega arith))))
 
 pub six-residuals-spec : {M : Type 1} → statement M

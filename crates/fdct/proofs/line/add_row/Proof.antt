@@ -7,7 +7,7 @@ use mathlib.Core.Path.{_≡_, refl, sym}
 use lib.Ieee.{Float, binary64, add, mul}
 use lib.ListN.{length}
 use Rattle.basis.proofs.Lists.{filled, filled-none, filled-set, filled-end}
-use Rattle.fdct.specs.Pass.{entries}
+use Rattle.fdct.specs.Told.{entries}
 use Rattle.fdct.proofs.line.add_row.Statement.{statement}
 use Rattle.fdct.proofs.line.add_row.Tie as tie
 

@@ -10,7 +10,7 @@ use Rattle.basis.specs.Lists.{tabulate}
 use Rattle.basis.proofs.Lists.{length-tabulate, laid, laid-none, laid-put, laid-end}
 use Rattle.basis.proofs.Slices.{part-length}
 use Rattle.fdct.specs.Double.{halfDouble}
-use Rattle.fdct.specs.Pass.{entries, passedAt}
+use Rattle.fdct.specs.Told.{entries, passedAt}
 use Rattle.fdct.proofs.Lines.{row-is}
 use Rattle.fdct.proofs.line.fdct_1d.Statement.{statement}
 use Rattle.fdct.proofs.line.fdct_1d.Tie as tie
@@ -74,7 +74,8 @@ loop-again c =
       omega arith,
       omega arith,
       laid-put 8 (passRow (s .args .block .now)) (λ j. length-tabulate _ _) (l .u) _ (l .out) _ (l .inv .3)
-          (row-is (s .args .block .now) (sums .result) _ (l .u) _ (sums .ensures) (ap (mul binary64 halfDouble) (scale .ensures)) (c .before .before .scale-row .ensures)),
+          (row-is (s .args .block .now) (sums .result) _ (l .u) _
+          (sums .ensures) (ap (mul binary64 halfDouble) (scale .ensures)) (c .before .before .scale-row .ensures)),
     )
 
 same-length : tie.Need-same-length Inv-loop μ-loop

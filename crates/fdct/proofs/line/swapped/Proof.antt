@@ -5,7 +5,7 @@ use native.Mathlib.Omega.{arith}
 use mathlib.Core.Path.{_≡_, refl, sym}
 use lib.ListN.{length}
 use Rattle.basis.proofs.Lists.{filled, filled-none, filled-set, filled-end}
-use Rattle.fdct.specs.Pass.{entries, swappedAt}
+use Rattle.fdct.specs.Told.{entries, swappedAt}
 use Rattle.fdct.proofs.line.swapped.Statement.{statement}
 use Rattle.fdct.proofs.line.swapped.Tie as tie
 

@@ -45,7 +45,10 @@ loop-again : tie.Need-loop-again Inv-loop μ-loop
 loop-again c =
     let l = c .before .before .before .before .loop in
     let s = c .before .before .before .before .before in
-    (search needs, sums-more (s .args .table .now) (s .args .block .now) (l .sums) _ (s .args .u) (l .x) (s .pre .1) (s .pre .0) (c .before .before .before .loop-test .taken) (l .inv .1) (c .add-row .ensures))
+    let more = c .before .before .before .loop-test .taken in (
+      search needs,
+      sums-more (s .args .table .now) (s .args .block .now) (l .sums) _ (s .args .u) (l .x) (s .pre .1) (s .pre .0) more (l .inv .1) (c .add-row .ensures),
+    )
 
 returns : tie.Need-returns Inv-loop μ-loop
 returns c =

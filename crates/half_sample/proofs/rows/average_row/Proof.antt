@@ -1,46 +1,59 @@
 -- `half_sample::rows::average_row` meets its contract. Assumes nothing.
 use mathlib.Core.Bool.{Bool, true, false}
 use mathlib.Core.Path.{_≡_, sym, ap₂, _∙_}
+use mathlib.Core.List.{List}
+use Prim.Native.Nat.{ℕ}
 use lib.ListN.{length}
 use Rattle.basis.specs.Lists.{tabulate}
 use Rattle.basis.proofs.Case.{second-holds}
-use Rattle.half_sample.specs.Rows.{averageAt}
-use Rattle.half_sample.proofs.Averages.{reach-one, reach-none}
+use Rattle.half_sample.specs.ToldRows.{averageAt}
+use Rattle.half_sample.proofs.Averages.{samples-for-one, samples-for-none}
 use borrow.Author.Needs.{needs}
 use Rattle.half_sample.proofs.rows.average_row.Statement.{statement}
 use Rattle.half_sample.proofs.rows.average_row.Tie as tie
 
--- the row of the definition, by what the two tests showed
-row-is : (s : tie.Start) (p q : Bool) → s .args .half-x ≡ p → s .args .half-y ≡ q → let a = s .args in
-    tabulate (length (a .out .now)) (averageAt (a .top .now) (a .low .now) p q (a .rc)) ≡ tabulate (length (a .out .now)) (averageAt (a .top .now) (a .low .now) (a .half-x) (a .half-y) (a .rc))
-row-is s p q e f = let a = s .args in ap₂ (λ (t u : Bool). tabulate (length (a .out .now)) (averageAt (a .top .now) (a .low .now) t u (a .rc))) (sym e) (sym f)
+-- the row of the definition, with two flags in place of its halves
+abbrev rowWith : tie.Start → Bool → Bool → List ℕ
+rowWith s p q =
+    let a = s .args in
+    tabulate (length (a .out .now)) (averageAt (a .top .now) (a .low .now) (record { x = p; y = q; rc = a .halves .rc }))
+
+-- by what the two tests showed
+row-is : (s : tie.Start) (p q : Bool) → s .args .halves .x ≡ p → s .args .halves .y ≡ q → rowWith s p q ≡ rowWith s (s .args .halves .x) (s .args .halves .y)
+row-is s p q e f = ap₂ (rowWith s) (sym e) (sym f)
 
 row-d-requires : tie.Need-row-d-requires
 row-d-requires c κs =
     let s = c .before .before .before .before .before .before in
     let e = c .before .before .if1 .taken in
-    (s .pre .0 ∙ reach-one _ _ e, s .pre .1 ∙ reach-one _ _ e, s .pre .3)
+    (s .pre .top-fits ∙ samples-for-one _ _ e, s .pre .low-fits ∙ samples-for-one _ _ e, s .pre .rc-small)
 
 same-length : tie.Need-same-length
 same-length c = search needs
 
 returns : tie.Need-returns
-returns c = c .before .before .row-d .ensures ∙ row-is (c .before .before .before .before .before .before .before .before .before) true true (c .before .before .before .before .before .if1 .taken) (c .before .before .before .before .if2 .taken)
+returns c =
+    let t = c .before .before .before .before .before in
+    c .before .before .row-d .ensures ∙ row-is (t .before .before .before .before) true true (t .if1 .taken) (c .before .before .before .before .if2 .taken)
 
 row-b-requires : tie.Need-row-b-requires
-row-b-requires c κs = let s = c .before .before .before .before .before .before in (s .pre .0 ∙ reach-one _ _ (c .before .before .if1 .taken), s .pre .3)
+row-b-requires c κs =
+    let s = c .before .before .before .before .before .before in
+    (s .pre .top-fits ∙ samples-for-one _ _ (c .before .before .if1 .taken), s .pre .rc-small)
 
 same-length-2 : tie.Need-same-length-2
 same-length-2 c = search needs
 
 returns-2 : tie.Need-returns-2
-returns-2 c = c .before .before .row-b .ensures ∙ row-is (c .before .before .before .before .before .before .before .before .before) true false (c .before .before .before .before .before .if1 .taken) (c .before .before .before .before .if2 .left)
+returns-2 c =
+    let t = c .before .before .before .before .before in
+    c .before .before .row-b .ensures ∙ row-is (t .before .before .before .before) true false (t .if1 .taken) (c .before .before .before .before .if2 .left)
 
 row-c-requires : tie.Need-row-c-requires
 row-c-requires c κs =
     let s = c .before .before .before .before .before in
     let e = c .before .if1 .left in
-    (s .pre .0 ∙ reach-none _ _ e, s .pre .1 ∙ reach-none _ _ e, s .pre .3)
+    (s .pre .top-fits ∙ samples-for-none _ _ e, s .pre .low-fits ∙ samples-for-none _ _ e, s .pre .rc-small)
 
 same-length-3 : tie.Need-same-length-3
 same-length-3 c = search needs
@@ -49,7 +62,7 @@ returns-3 : tie.Need-returns-3
 returns-3 c =
     let s = c .before .before .before .before .before .before .before .before in
     let e = c .before .before .before .before .if1 .left in
-    c .before .before .row-c .ensures ∙ row-is s false true e (second-holds (s .args .half-x) (s .args .half-y) e (s .pre .2))
+    c .before .before .row-c .ensures ∙ row-is s false true e (second-holds (s .args .halves .x) (s .args .halves .y) e (s .pre .some-half))
 
 pub average-row-spec : {M : Type 1} → statement M
 average-row-spec =

@@ -1,6 +1,6 @@
 -- `half_sample::rows::averaged` meets its contract. Assumes nothing.
 use native.Mathlib.Omega.{arith}
-use mathlib.Core.Path.{_≡_, sym, ap, ap₂, _∙_}
+use mathlib.Core.Path.{_≡_, sym, ap, _∙_}
 use lib.IntN.{ℤ, pos, natAbs}
 use mir.Syntax.{w32, w64}
 use mir.Val.{SFits, toZ, ofZ}
@@ -8,11 +8,11 @@ use mir.Facts.{sfits-lit}
 use Rattle.basis.specs.Parts.{above, below}
 use Rattle.basis.specs.Lists.{raster}
 use Rattle.basis.proofs.Parts.{sides, above-pos, fits-above}
-use Rattle.basis.proofs.Signed.{lt-read, lt-false, cast-read, cast-value, of-bits}
+use Rattle.basis.proofs.Signed.{lt-read, lt-false, cast-read, cast-value}
 use Rattle.plane.specs.Plane.{planeOf}
 use Rattle.plane.proofs.Ready.{usable}
-use Rattle.half_sample.specs.Block.{sampleFrom}
-use Rattle.half_sample.proofs.Averages.{reach-high}
+use Rattle.half_sample.specs.ToldRows.{sampleBy}
+use Rattle.half_sample.proofs.Averages.{samples-for-high}
 use borrow.Author.Needs.{needs}
 use Rattle.half_sample.proofs.rows.averaged.Statement.{statement}
 use Rattle.half_sample.proofs.rows.averaged.Tie as tie
@@ -46,13 +46,14 @@ returns c = search needs
 cast-column : tie.Need-cast-column
 cast-column c = cast-read w32 w64 (x c) tt (fits c) (not-negative c)
 
-reach-requires : tie.Need-reach-requires
-reach-requires c κs = search needs
+samples-for-requires : tie.Need-samples-for-requires
+samples-for-requires c κs = search needs
 
 add-if2 : tie.Need-add-if2
 add-if2 c =
     let e = c .before in
-    omega (arith, column-is e, fits-above (x e) (fits e), reach-high (s e .args .w) (s e .args .half-x), c .reach .ensures)
+    let columns = samples-for-high (s e .args .site .width) (s e .args .halves .x) in
+    omega (arith, column-is e, fits-above (x e) (fits e), columns, c .samples-for .ensures, s e .pre .0 .narrow)
 
 crossing-requires-2 : tie.Need-crossing-requires-2
 crossing-requires-2 c κs = search needs
@@ -65,20 +66,28 @@ returns-2 c = search needs
 
 plane-rows-requires : tie.Need-plane-rows-requires
 plane-rows-requires c κs =
-    let z = c .before .before .before .before .before .before .before .before .before in
-    (usable _ _ (z .pre .0) .hold, omega (arith, c .before .before .if2 .left, c .before .before .before .before .reach .ensures), omega arith, omega arith, z .pre .5, z .pre .6, z .pre .7)
+    let t = c .before .before .before in
+    let z = s (t .before) in
+    record {
+      held = usable _ _ (z .pre .0 .reference) .hold;
+      inside = omega (arith, c .before .if2 .left, t .samples-for .ensures);
+      narrow = omega (arith, z .pre .0 .narrow);
+      low = omega (arith, z .pre .0 .low);
+      some-half = z .pre .1;
+      rc-small = z .pre .0 .rc-small;
+      area-fits = z .pre .0 .area-fits;
+    }
 
 same-length-3 : tie.Need-same-length-3
 same-length-3 c = search needs
 
 returns-3 : tie.Need-returns-3
 returns-3 c =
-    let e = c .before .before .before .before .before .before .before .before in
-    let z = s e in
-    let a = z .args in
+    let e = c .before .before .before .before .before .before .before in
+    let a = s e .args in
     c .before .before .plane-rows .ensures
-    ∙ ap₂ (λ (p q : ℤ). raster (a .w) (a .h) (sampleFrom (planeOf (a .samples .now) (a .geometry)) p q (a .half-x) (a .half-y) (a .rc)))
-    (ap pos (column-is e) ∙ above-pos (x e) (not-negative e)) (of-bits (a .at .y) (c .before .before .before .struct-told2 .given .1 .0 .1))
+    ∙ ap (λ (z : ℤ). raster (a .site .width) (a .site .height) (sampleBy (planeOf (a .samples .now) (a .geometry)) z (a .at .y) (a .halves)))
+    (ap pos (column-is e) ∙ above-pos (x e) (not-negative e))
 
 pub averaged-spec : {M : Type 1} → statement M
 averaged-spec =
@@ -88,7 +97,7 @@ averaged-spec =
     same-length
     returns
     cast-column
-    reach-requires
+    samples-for-requires
     add-if2
     crossing-requires-2
     same-length-2

@@ -1,6 +1,7 @@
--- `half_sample::rows::copied_rows` meets its contract. Assumes nothing.
+-- `half_sample::rows::copied_rows` meets its contract: the copy in the buffer is a plane of its own. Assumes nothing.
 use Prim.Native.Nat.{ℕ, _*_}
 use native.Mathlib.Omega.{arith}
+use mathlib.Core.List.{List}
 use mathlib.Core.Path.{_≡_, sym, ap, ap₂, _∙_, subst}
 use lib.IntN.{pos}
 use lib.ListN.{length}
@@ -9,12 +10,11 @@ use Rattle.refusal.specs.declared.Reply.{Reply}
 use Rattle.refusal.specs.declared.Reply.the-variants.{Done}
 use Rattle.refusal.specs.Reply.{done}
 use Rattle.plane.specs.Plane.{Plane, planeOf, copiedBlock}
-use Rattle.plane.specs.Held.{Held}
+use Rattle.plane.specs.ToldHeld.{Held}
 use Rattle.plane.proofs.Ready.{copy-done}
-use Rattle.plane.proofs.Copied.{copyOf, copy-held}
-use Rattle.half_sample.specs.Block.{sampleFrom}
-use Rattle.half_sample.specs.Rows.{reach}
-use Rattle.half_sample.proofs.Averages.{reach-low, averaged-copy}
+use Rattle.plane.proofs.Copied.{copy-held}
+use Rattle.half_sample.specs.ToldRows.{samplesFor, sampleBy}
+use Rattle.half_sample.proofs.Averages.{samples-for-low, copyBy, averaged-copy}
 use borrow.Author.Needs.{needs}
 use Rattle.half_sample.proofs.rows.copied_rows.Statement.{statement}
 use Rattle.half_sample.proofs.rows.copied_rows.Tie as tie
@@ -23,45 +23,59 @@ abbrev from : tie.Start → Plane
 from s = planeOf (s .args .samples .now) (s .args .geometry)
 
 abbrev columns : tie.Start → ℕ
-columns s = reach (s .args .w) (s .args .half-x)
+columns s = samplesFor (s .args .site .width) (s .args .halves .x)
 
 abbrev lines : tie.Start → ℕ
-lines s = reach (s .args .h) (s .args .half-y)
+lines s = samplesFor (s .args .site .height) (s .args .halves .y)
 
 -- the buffer, with its sizes, is the copied block
-abbrev copy : tie.Start → Plane
-copy s = copyOf (from s) (s .args .at .x) (s .args .at .y) (columns s) (lines s)
-
 module _ (c : tie.After-copy-block) where
   abbrev s : tie.Start
   s = c .before .before .before .before .before .before .before
 
-  columns-is : c .before .before .before .reach .result ≡ columns s
-  columns-is = c .before .before .before .reach .ensures
+  abbrev width : ℕ
+  width = c .before .before .before .samples-for .result
 
-  lines-is : c .before .before .reach2 .result ≡ lines s
-  lines-is = c .before .before .reach2 .ensures
+  abbrev height : ℕ
+  height = c .before .before .samples-for2 .result
+
+  abbrev buffer : List ℕ
+  buffer = c .copy-block .last .1 .1 .1 .1 .1 .0
+
+  columns-is : width ≡ columns s
+  columns-is = c .before .before .before .samples-for .ensures
+
+  lines-is : height ≡ lines s
+  lines-is = c .before .before .samples-for2 .ensures
 
   reply-is : c .copy-block .result ≡ Done
   reply-is =
       c .copy-block .ensures .0
-      ∙ copy-done (s .args .geometry) (length (s .args .samples .now)) (c .before .before .before .reach .result) (c .before .before .reach2 .result) (length (s .args .buffer .now)) (s .pre .0)
-      (s .pre .7 ∙ sym (ap₂ (λ (w h : ℕ). w * h) columns-is lines-is))
+      ∙ copy-done (s .args .geometry) (length (s .args .samples .now)) width height (length (s .args .buffer .now)) (s .pre .0 .reference)
+      (s .pre .2 ∙ sym (ap₂ (λ (w h : ℕ). w * h) columns-is lines-is))
 
-  samples-is : c .copy-block .last .1 .1 .1 .1 .1 .0 ≡ copiedBlock (from s) (s .args .at) (columns s) (lines s)
+  samples-is : buffer ≡ copiedBlock (from s) (s .args .at) (columns s) (lines s)
   samples-is =
       c .copy-block .ensures .1
-      ∙ ap (λ (r : Reply). done r (copiedBlock (from s) (s .args .at) (c .before .before .before .reach .result) (c .before .before .reach2 .result)) (s .args .buffer .now)) reply-is
-      ∙ ap₂ (λ (w h : ℕ). copiedBlock (from s) (s .args .at) w h) columns-is lines-is
+      ∙ ap (λ (r : Reply). done r (copiedBlock (from s) (s .args .at) width height) (s .args .buffer .now)) reply-is
+      ∙ ap₂ (copiedBlock (from s) (s .args .at)) columns-is lines-is
 
-  copy-is : planeOf (c .copy-block .last .1 .1 .1 .1 .1 .0) (record { width = c .before .before .before .reach .result; height = c .before .before .reach2 .result; stride = c .before .before .before .reach .result }) ≡ copy s
+  copy-is : planeOf buffer (record { width = width; height = height; stride = width }) ≡ copyBy (from s) (s .args .at) (s .args .site) (s .args .halves)
   copy-is = λ i. record { samples = samples-is i; width = columns-is i; height = lines-is i; stride = columns-is i }
 
-reach-requires : tie.Need-reach-requires
-reach-requires c κs = search needs
+  held : Held (planeOf buffer (record { width = width; height = height; stride = width }))
+  held =
+      let a = s .args in
+      subst Held (sym copy-is)
+      (copy-held (from s) (a .at .x) (a .at .y) (columns s) (lines s)
+      (omega (arith, samples-for-low (a .site .width) (a .halves .x), s .pre .0 .some-columns))
+      (omega (arith, samples-for-low (a .site .height) (a .halves .y), s .pre .0 .some-rows)))
 
-reach-requires-2 : tie.Need-reach-requires-2
-reach-requires-2 c κs = search needs
+samples-for-requires : tie.Need-samples-for-requires
+samples-for-requires c κs = search needs
+
+samples-for-requires-2 : tie.Need-samples-for-requires-2
+samples-for-requires-2 c κs = search needs
 
 copy-block-requires : tie.Need-copy-block-requires
 copy-block-requires c κs = search needs
@@ -69,15 +83,16 @@ copy-block-requires c κs = search needs
 plane-rows-requires : tie.Need-plane-rows-requires
 plane-rows-requires c κs =
     let d = c .before .before .before .before in
-    let z = s d in (
-      subst Held (sym (copy-is d)) (copy-held (from z) (z .args .at .x) (z .args .at .y) (columns z) (lines z) (omega (arith, reach-low (z .args .w) (z .args .half-x))) (omega (arith, reach-low (z .args .h) (z .args .half-y)))),
-      omega (arith, columns-is d),
-      omega arith,
-      omega arith,
-      z .pre .5,
-      z .pre .6,
-      z .pre .8,
-    )
+    let z = s d in
+    record {
+      held = held d;
+      inside = omega (arith, columns-is d);
+      narrow = omega (arith, z .pre .0 .narrow);
+      low = omega (arith, z .pre .0 .low);
+      some-half = z .pre .1;
+      rc-small = z .pre .0 .rc-small;
+      area-fits = z .pre .0 .area-fits;
+    }
 
 same-length : tie.Need-same-length
 same-length c = search needs
@@ -88,18 +103,17 @@ same-length-2 c = search needs
 returns : tie.Need-returns
 returns c =
     let d = c .before .before .before .before .before .before .before in
-    let z = s d in
-    let a = z .args in
+    let a = s d .args in
     c .before .before .plane-rows .ensures
-    ∙ ap (λ (p : Plane). raster (a .w) (a .h) (sampleFrom p (pos 0) (pos 0) (a .half-x) (a .half-y) (a .rc))) (copy-is d)
-    ∙ averaged-copy (from z) (a .at .x) (a .at .y) (a .half-x) (a .half-y) (a .rc) (a .w) (a .h)
+    ∙ ap (λ (p : Plane). raster (a .site .width) (a .site .height) (sampleBy p (pos 0) (pos 0) (a .halves))) (copy-is d)
+    ∙ averaged-copy (from (s d)) (a .at) (a .site) (a .halves)
 
 pub copied-rows-spec : {M : Type 1} → statement M
 copied-rows-spec =
     tie.close
     (tie.spec
-    reach-requires
-    reach-requires-2
+    samples-for-requires
+    samples-for-requires-2
     copy-block-requires
     plane-rows-requires
     same-length

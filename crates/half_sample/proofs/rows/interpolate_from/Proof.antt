@@ -17,7 +17,7 @@ use Rattle.half_sample.proofs.rows.interpolate_from.Tie as tie
 averaged-requires : tie.Need-averaged-requires
 averaged-requires c κs =
     let z = c .before .before .before .before in
-    (z .pre .0, z .pre .1, z .pre .2, z .pre .3, z .pre .4, or-left (z .args .half-x) (z .args .half-y) (c .before .if1 .taken), z .pre .5, z .pre .6)
+    (z .pre, or-left (z .args .halves .x) (z .args .halves .y) (c .before .if1 .taken))
 
 same-length : tie.Need-same-length
 same-length c = search needs
@@ -28,7 +28,7 @@ returns c = search needs
 averaged-requires-2 : tie.Need-averaged-requires-2
 averaged-requires-2 c κs =
     let z = c .before .before .before .before .before in
-    (z .pre .0, z .pre .1, z .pre .2, z .pre .3, z .pre .4, or-right (z .args .half-x) (z .args .half-y) (c .before .if2 .taken), z .pre .5, z .pre .6)
+    (z .pre, or-right (z .args .halves .x) (z .args .halves .y) (c .before .if2 .taken))
 
 same-length-2 : tie.Need-same-length-2
 same-length-2 c = search needs
@@ -44,14 +44,19 @@ same-length-3 c = search needs
 
 returns-3 : tie.Need-returns-3
 returns-3 c =
-    let z = c .before .before .before .before .before .before .before .before in
-    let a = z .args in
-    let p = planeOf (a .samples .now) (a .geometry) in
     let d = c .before .before in
+    let e = d .before .before in
+    let z = e .before .before .before .before in
+    let a = z .args in
+    let w = a .site .width in
+    let h = a .site .height in
+    let p = planeOf (a .samples .now) (a .geometry) in
     d .copy-block .ensures .1
-    ∙ ap (λ (r : Reply). done r (copiedBlock p (a .at) (a .w) (a .h)) (a .out .now))
-    (d .copy-block .ensures .0 ∙ copy-done (a .geometry) (length (a .samples .now)) (a .w) (a .h) (length (a .out .now)) (z .pre .0) (z .pre .6 ∙ mul-comm (a .h) (a .w)))
-    ∙ ap₂ (λ (t u : Bool). raster (a .w) (a .h) (sampleFrom p (a .at .x) (a .at .y) t u (a .rc))) (sym (c .before .before .before .before .before .if1 .left)) (sym (c .before .before .before .before .if2 .left))
+    ∙ ap (λ (r : Reply). done r (copiedBlock p (a .at) w h) (a .out .now))
+    (d .copy-block .ensures .0
+    ∙ copy-done (a .geometry) (length (a .samples .now)) w h (length (a .out .now)) (z .pre .reference) (z .pre .area-fits ∙ mul-comm h w))
+    ∙ ap₂ (λ (t u : Bool). raster w h (sampleFrom p (a .at .x) (a .at .y) t u (a .halves .rc)))
+    (sym (e .before .if1 .left)) (sym (e .if2 .left))
 
 pub interpolate-from-spec : {M : Type 1} → statement M
 interpolate-from-spec =

@@ -1,16 +1,16 @@
 -- `half_sample::rows::row_b` meets its contract. Assumes nothing.
-use Prim.Native.Nat.{_+_, _-_, _≤_}
+use Prim.Native.Nat.{_-_, _≤_}
 use native.Mathlib.Omega.{arith}
 use mathlib.Core.Path.{_≡_, refl, sym}
-use lib.ListN.{length, getD, length-set}
+use lib.ListN.{length, length-set}
 use Rattle.basis.proofs.Lists.{filled, filled-none, filled-set, filled-end}
-use Rattle.half_sample.specs.Average.{average2Of}
+use Rattle.half_sample.specs.ToldRows.{rightOf}
 use Rattle.half_sample.proofs.rows.row_b.Statement.{statement}
 use Rattle.half_sample.proofs.rows.row_b.Tie as tie
 
 abbrev Inv-loop : tie.InvT-loop
 Inv-loop top rc out₀ i₀ i-end out i =
-    (i ≤ i-end) × (i-end ≡ length out₀) × (length out ≡ length out₀) × (out ≡ filled i (λ k. average2Of (getD top k 0) (getD top (k + 1) 0) rc) out₀)
+    (i ≤ i-end) × (i-end ≡ length out₀) × (length out ≡ length out₀) × (out ≡ filled i (rightOf top rc) out₀)
 
 abbrev μ-loop : tie.MeasureT-loop
 μ-loop top rc out₀ i₀ i-end out i = i-end - i

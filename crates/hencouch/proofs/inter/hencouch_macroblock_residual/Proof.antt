@@ -6,7 +6,7 @@ use Rattle.refusal.specs.declared.Reply.{Reply}
 use Rattle.refusal.specs.Number.{codeOf}
 use Rattle.refusal.specs.Reply.{done}
 use Rattle.coding.specs.Residual.{samples, sourceOf, residualOf}
-use Rattle.hencouch.specs.Numbers.{sizeOf, placeOf}
+use Rattle.hencouch.specs.Numbers.{sizeOf, macroblockAt}
 use borrow.Author.Needs.{needs}
 use Rattle.hencouch.proofs.inter.hencouch_macroblock_residual.Statement.{statement}
 use Rattle.hencouch.proofs.inter.hencouch_macroblock_residual.Tie as tie
@@ -14,7 +14,8 @@ use Rattle.hencouch.proofs.inter.hencouch_macroblock_residual.Tie as ti
 abbrev residualFor : tie.Start → List ℤ
 residualFor s =
     let a = s .args in
-    residualOf (sourceOf (a .y .now) (a .cb .now) (a .cr .now) (sizeOf (a .width) (a .height)) (placeOf (a .column) (a .row))) (samples (a .pred-y .now) (a .pred-cb .now) (a .pred-cr .now))
+    let source = sourceOf (a .y .now) (a .cb .now) (a .cr .now) (sizeOf (a .width) (a .height)) (macroblockAt (a .column) (a .row)) in
+    residualOf source (samples (a .pred-y .now) (a .pred-cb .now) (a .pred-cr .now))
 
 macroblock-residual-requires : tie.Need-macroblock-residual-requires
 macroblock-residual-requires c κs = search needs

@@ -1,5 +1,6 @@
 -- `hencouch::levels::hencouch_levels_to_events` meets its contract. Assumes nothing.
-use mathlib.Core.Path.{_≡_, sym, ap, _∙_}
+use Prim.Native.Nat.{ℕ}
+use mathlib.Core.Path.{_≡_, ap, _∙_}
 use lib.ListN.{length}
 use Rattle.refusal.specs.declared.Reply.{Reply}
 use Rattle.refusal.specs.Number.{codeOf}
@@ -7,6 +8,7 @@ use Rattle.refusal.specs.Reply.{done}
 use Rattle.scan.specs.declared.Events.{Events}
 use Rattle.scan.specs.Event.{eventsOf, lastsArea, runsArea, levelsArea}
 use Rattle.scan.specs.Reply.{eventsReply}
+use Rattle.refusal.proofs.Replies.{done-again}
 use borrow.Author.Needs.{needs}
 use Rattle.hencouch.proofs.levels.hencouch_levels_to_events.Statement.{statement}
 use Rattle.hencouch.proofs.levels.hencouch_levels_to_events.Tie as tie
@@ -33,14 +35,8 @@ areas d =
 levels-to-events-requires : tie.Need-levels-to-events-requires
 levels-to-events-requires c κs = search needs
 
-enum-known-reply : tie.Need-enum-known-reply
-enum-known-reply c = search needs
-
-number-requires : tie.Need-number-requires
-number-requires c κs = search needs
-
-enum-told : tie.Need-enum-told
-enum-told c = search needs
+write-count-requires : tie.Need-write-count-requires
+write-count-requires c κs = search needs
 
 same-length : tie.Need-same-length
 same-length c = search needs
@@ -53,41 +49,16 @@ same-length-3 c = search needs
 
 returns : tie.Need-returns
 returns c =
-    let d = c .before .before .before .before .before .before .before .before .before in
-    let s = d .before .before .before .before .before .before in
-    let told = sym (c .before .before .reply .given .1) ∙ reply-is d in (
-      c .number .ensures ∙ ap codeOf told,
-      (areas d .0, (areas d .1, (areas d .2, ap (λ (r : Reply). done r (length (eventsOf (s .args .levels .now))) (s .args .count .now)) told))),
-    )
-
-same-length-4 : tie.Need-same-length-4
-same-length-4 c = search needs
-
-same-length-5 : tie.Need-same-length-5
-same-length-5 c = search needs
-
-same-length-6 : tie.Need-same-length-6
-same-length-6 c = search needs
-
-returns-2 : tie.Need-returns-2
-returns-2 c =
     let d = c .before .before .before .before .before .before .before in
     let s = d .before .before .before .before .before .before in
-    let told = sym (c .enum-told .given .1) ∙ reply-is d in
-    let n = length (eventsOf (s .args .levels .now)) in (
-      ap codeOf told,
-      (
-        areas d .0,
-        (
-          areas d .1,
-          (
-            areas d .2,
-            ap (λ (e : Events). e .count) (d .levels-to-events .ensures .0)
-                ∙ ap (λ (r : Reply). done r n 0) (sym told)
-                ∙ ap (λ (r : Reply). done r n (s .args .count .now)) told,
-          ),
-        ),
-      ),
+    let w = c .write-count .ensures in (
+      w .0 ∙ ap codeOf (reply-is d),
+      areas d .0,
+      areas d .1,
+      areas d .2,
+      w .1
+          ∙ ap (λ (t : Events). done (t .reply) (t .count) (s .args .count .now)) (d .levels-to-events .ensures .0)
+          ∙ done-again (replyFor s) (λ (n : ℕ). n) (length (eventsOf (s .args .levels .now))) 0 (s .args .count .now),
     )
 
 pub hencouch-levels-to-events-spec : {M : Type 1} → statement M
@@ -95,14 +66,8 @@ hencouch-levels-to-events-spec =
     tie.close
     (tie.spec
     levels-to-events-requires
-    enum-known-reply
-    number-requires
-    enum-told
+    write-count-requires
     same-length
     same-length-2
     same-length-3
-    returns
-    same-length-4
-    same-length-5
-    same-length-6
-    returns-2)
+    returns)

@@ -43,7 +43,7 @@ returns c =
     let s = f .before .before .before .before in
     let e = f .estimate-motion .ensures .0 in
     let o = w .write-one .ensures in
-    (o .0 ∙ ap (λ (x : Estimated). codeOf (replyFor s x)) e, (o .1 .0 ∙ ap (vectorFor s) e, o .1 .1 ∙ ap (sumFor s) e))
+    (o .0 ∙ ap (λ (x : Estimated). codeOf (replyFor s x)) e, o .1 ∙ ap (vectorFor s) e, o .2 ∙ ap (sumFor s) e)
 
 pub hencouch-estimate-motion-spec : {M : Type 1} → statement M
 hencouch-estimate-motion-spec =

@@ -12,8 +12,9 @@ use Rattle.refusal.specs.Number.{codeOf}
 use Rattle.refusal.specs.Reply.{done}
 use Rattle.record.specs.declared.MotionVector.{MotionVector}
 use Rattle.search.specs.declared.EstimatedFour.{EstimatedFour}
+use Rattle.search.specs.Request.{searchRequest}
 use Rattle.search.specs.Estimate.{estimateFour}
-use Rattle.hencouch.specs.Numbers.{geometryOf, vectorOf, sizeOf, placeOf}
+use Rattle.hencouch.specs.Numbers.{geometryOf, vectorOf, sizeOf, macroblockAt}
 use Rattle.hencouch.specs.Search.{fourAreasReply, vectorsArea}
 use borrow.Author.Needs.{needs}
 use Rattle.hencouch.proofs.motion.hencouch_estimate_motion_4mv.Statement.{statement}
@@ -30,14 +31,22 @@ module _ (s : tie.Start) where
   abbrev sumsFor : EstimatedFour → List ℕ
   sumsFor e = done (replyFor e) (e .sums) (s .args .sums .now)
 
-  -- what it answers for a seed, and the seed's numbers read back as they were handed in
+  -- what it answers for a seed
   abbrev answerFor : MotionVector → EstimatedFour
   answerFor seed =
       let a = s .args in
-      estimateFour (a .source .now) (sizeOf (a .width) (a .height)) (placeOf (a .column) (a .row)) (a .reference .now) (geometryOf (a .ref-width) (a .ref-height) (a .stride)) (a .mode) (a .bpp) (a .fcode) seed
+      let geometry = geometryOf (a .ref-width) (a .ref-height) (a .stride) in
+      let at = macroblockAt (a .column) (a .row) in
+      estimateFour (searchRequest (a .source .now) (sizeOf (a .width) (a .height)) at (a .reference .now) geometry (a .mode) (a .bpp) (a .fcode)) seed
 
-  seed-is : vectorOf (toZ w32 (ofZ w32 (s .args .seed-x))) (toZ w32 (ofZ w32 (s .args .seed-y))) ≡ vectorOf (s .args .seed-x) (s .args .seed-y)
-  seed-is = ap₂ vectorOf (toZ-ofZ w32 (s .args .seed-x) (s .fits .seed-x)) (toZ-ofZ w32 (s .args .seed-y) (s .fits .seed-y))
+-- the seed's numbers are read back as they were handed in
+seed-is : (c : tie.After-vector-of) → let a = c .before .before .before .before .args in c .vector-of .result ≡ vectorOf (a .seed-x) (a .seed-y)
+seed-is c =
+    let s = c .before .before .before .before in
+    c .vector-of .ensures ∙ ap₂ vectorOf (toZ-ofZ w32 (s .args .seed-x) (s .fits .seed-x)) (toZ-ofZ w32 (s .args .seed-y) (s .fits .seed-y))
+
+vector-of-requires : tie.Need-vector-of-requires
+vector-of-requires c κs = search needs
 
 estimate-motion-4mv-requires : tie.Need-estimate-motion-4mv-requires
 estimate-motion-4mv-requires c κs = search needs
@@ -55,11 +64,12 @@ returns : tie.Need-returns
 returns c =
     let w = c .before .before .before in
     let f = w .before .before .before in
-    let s = f .before .before .before .before in
-    let e = f .estimate-motion-4mv .ensures .0 ∙ ap (answerFor s) (seed-is s) in
+    let v = f .before in
+    let s = v .before .before .before .before in
+    let e = f .estimate-motion-4mv .ensures .0 ∙ ap (answerFor s) (seed-is v) in
     let o = w .write-four .ensures in
-    (o .0 ∙ ap (λ (x : EstimatedFour). codeOf (replyFor s x)) e, (o .1 .0 ∙ ap (vectorsFor s) e, o .1 .1 ∙ ap (sumsFor s) e))
+    (o .0 ∙ ap (λ (x : EstimatedFour). codeOf (replyFor s x)) e, o .1 ∙ ap (vectorsFor s) e, o .2 ∙ ap (sumsFor s) e)
 
 pub hencouch-estimate-motion-4mv-spec : {M : Type 1} → statement M
 hencouch-estimate-motion-4mv-spec =
-    tie.close (tie.spec estimate-motion-4mv-requires write-four-requires same-length same-length-2 returns)
+    tie.close (tie.spec vector-of-requires estimate-motion-4mv-requires write-four-requires same-length same-length-2 returns)

@@ -64,7 +64,7 @@ returns c =
     let d = k .before .before in
     let s = startAt d in
     let e = sym (k .reply .given .1) ∙ reply-is d in
-    (c .number .ensures ∙ ap codeOf e, (ap (vectorsBy s) e, ap (sumsBy s) e))
+    (c .number .ensures ∙ ap codeOf e, ap (vectorsBy s) e, ap (sumsBy s) e)
 
 same-length : tie.Need-same-length
 same-length c = search needs
@@ -78,7 +78,7 @@ returns-2 c =
     let k = f .before .before .before in
     let s = startAt (k .before .before) in
     let e = told k in
-    (ap codeOf e, (f .fill-four .ensures .0 ∙ ap (vectorsBy s) e, f .fill-four .ensures .1 ∙ ap (sumsBy s) e))
+    (ap codeOf e, f .fill-four .ensures .0 ∙ ap (vectorsBy s) e, f .fill-four .ensures .1 ∙ ap (sumsBy s) e)
 
 pub write-four-spec : {M : Type 1} → statement M
 write-four-spec =

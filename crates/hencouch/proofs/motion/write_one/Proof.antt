@@ -69,7 +69,7 @@ returns c =
     let d = k .before .before in
     let s = startAt d in
     let e = sym (k .reply .given .1) ∙ reply-is d in
-    (c .number .ensures ∙ ap codeOf e, (ap (vectorBy s) e, ap (sumBy s) e))
+    (c .number .ensures ∙ ap codeOf e, ap (vectorBy s) e, ap (sumBy s) e)
 
 same-length : tie.Need-same-length
 same-length c = search needs
@@ -84,10 +84,8 @@ returns-2 c =
     let a = s .args in
     let e = told k in (
       ap codeOf e,
-      (
-        c .before .write-vector .ensures ∙ stored-all (vectorArea (a .found .vector)) (a .vector .now) (long k .0) ∙ ap (vectorBy s) e,
-        stored-all (a .found .sum ∷ []) (a .sum .now) (long k .1) ∙ ap (sumBy s) e,
-      ),
+      c .before .write-vector .ensures ∙ stored-all (vectorArea (a .found .vector)) (a .vector .now) (long k .0) ∙ ap (vectorBy s) e,
+      stored-all (a .found .sum ∷ []) (a .sum .now) (long k .1) ∙ ap (sumBy s) e,
     )
 
 pub write-one-spec : {M : Type 1} → statement M

@@ -21,7 +21,8 @@ returns : tie.Need-returns
 returns c =
     let d = c .before .before in
     let a = d .before .before .args in
-    (c .code .ensures ∙ ap codeOf (d .forward-dct-8x8 .ensures .0), d .forward-dct-8x8 .ensures .1 ∙ ap (λ (z : Reply). done z (coefficients (a .residual .now)) (a .out .now)) (d .forward-dct-8x8 .ensures .0))
+    let e = d .forward-dct-8x8 .ensures in
+    (c .code .ensures ∙ ap codeOf (e .0), e .1 ∙ ap (λ (z : Reply). done z (coefficients (a .residual .now)) (a .out .now)) (e .0))
 
 pub hencouch-forward-dct-8x8-spec : {M : Type 1} → statement M
 hencouch-forward-dct-8x8-spec =

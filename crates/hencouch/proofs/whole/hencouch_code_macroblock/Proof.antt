@@ -1,27 +1,34 @@
 -- `hencouch::whole::hencouch_code_macroblock` meets its contract. Assumes nothing.
-use mathlib.Core.Bool.{not}
-use lib.Dec.{eqb}
+use mathlib.Core.Path.{ap, _∙_}
+use Rattle.macroblock.specs.declared.Settings.{Settings}
+use Rattle.macroblock.specs.Answer.{answerOf}
 use Rattle.macroblock.specs.Request.{Request, request}
-use Rattle.hencouch.specs.Numbers.{geometryOf, sizeOf, placeOf, settingsOf}
-use Rattle.hencouch.specs.Whole.{Written, written}
-use Rattle.hencouch.proofs.Records.{laid-out}
+use Rattle.hencouch.specs.Numbers.{geometryOf, sizeOf, macroblockAt, macroblockSettings}
+use Rattle.hencouch.specs.Whole.{RecordAreas, recordAreas}
+use Rattle.hencouch.proofs.Records.{record-laid-out}
 use borrow.Author.Needs.{needs}
 use Rattle.hencouch.proofs.whole.hencouch_code_macroblock.Statement.{statement}
 use Rattle.hencouch.proofs.whole.hencouch_code_macroblock.Tie as tie
 
 module _ (s : tie.Start) where
-  abbrev asked : Request
-  asked =
+  -- what is asked, by the settings, and the settings
+  abbrev askedBy : Settings → Request
+  askedBy settings =
       let a = s .args in
-      let settings = settingsOf (a .fcode) (a .mode) (a .bpp) (a .quantiser) (not (eqb (a .first-method) 0)) (a .vectors) (a .scan) in
       let geometry = geometryOf (a .ref-width) (a .ref-height) (a .stride) in
-      request settings (a .reference .now) geometry (a .y .now) (a .cb .now) (a .cr .now) (sizeOf (a .width) (a .height)) (placeOf (a .column) (a .row))
+      request settings (a .reference .now) geometry (a .y .now) (a .cb .now) (a .cr .now) (sizeOf (a .width) (a .height)) (macroblockAt (a .column) (a .row))
       (a .weights .now) (a .pred-y .now) (a .pred-cb .now) (a .pred-cr .now)
       (a .lasts .now) (a .runs .now) (a .levels .now)
 
+  abbrev asked : Request
+  asked = let a = s .args in askedBy (macroblockSettings (a .fcode) (a .mode) (a .bpp) (a .quantiser) (a .first-method) (a .vectors) (a .scan))
+
   -- the record's areas, as they are when the call begins
-  abbrev lent : Written
-  lent = let a = s .args in written (a .vector .now) (a .sum .now) (a .four-vectors .now) (a .four-sums .now) (a .patterns .now) (a .counts .now)
+  abbrev lent : RecordAreas
+  lent = let a = s .args in recordAreas (a .vector .now) (a .sum .now) (a .four-vectors .now) (a .four-sums .now) (a .patterns .now) (a .counts .now)
+
+settings-of-requires : tie.Need-settings-of-requires
+settings-of-requires c κs = search needs
 
 code-macroblock-requires : tie.Need-code-macroblock-requires
 code-macroblock-requires c κs = search needs
@@ -45,13 +52,16 @@ returns : tie.Need-returns
 returns c =
     let w = c .before in
     let d = w .before .before .before .before .before .before .before .before .before .before .before .before .before in
-    let s = d .before .before .before .before .before .before .before .before .before .before .before .before .before .before in
-    laid-out (asked s) _ _ _ (lent s) (d .code-macroblock .ensures .0) (c .code .ensures) (w .write-record .ensures)
+    let t = d .before .before .before .before in
+    let s = t .before .before .before .before .before .before .before .before .before .before .before in
+    let settled = ap (λ (z : Settings). answerOf (askedBy s z)) (t .settings-of .ensures) in
+    record-laid-out (asked s) _ _ _ (lent s) (d .code-macroblock .ensures .0 ∙ settled) (c .code .ensures) (w .write-record .ensures)
 
 pub hencouch-code-macroblock-spec : {M : Type 1} → statement M
 hencouch-code-macroblock-spec =
     tie.close
     (tie.spec
+    settings-of-requires
     code-macroblock-requires
     write-record-requires
     code-requires

@@ -1,8 +1,13 @@
 -- `macroblock::ready::code_ready` meets its contract. Assumes nothing.
-use mathlib.Core.Path.{_≡_, refl, ap, _∙_}
-use Rattle.coding.specs.Coding.{patternsOf, countsOf}
-use Rattle.macroblock.specs.Request.{Request, request, residual, quantisingIn}
-use Rattle.macroblock.specs.Answer.{recordOf}
+use Prim.Native.Nat.{ℕ}
+use mathlib.Core.List.{List}
+use mathlib.Core.Path.{refl, ap, _∙_}
+use Rattle.record.specs.declared.Record.{Record}
+use Rattle.coding.specs.declared.Patterns.{Patterns}
+use Rattle.coding.specs.Coding.{patternsOf}
+use Rattle.macroblock.specs.declared.Searched.{Searched}
+use Rattle.macroblock.specs.Request.{Request, request}
+use Rattle.macroblock.specs.Answer.{recordAt}
 use Rattle.macroblock.proofs.Accepted.{Accepted, accepted}
 use borrow.Author.Needs.{needs}
 use Rattle.macroblock.proofs.ready.code_ready.Statement.{statement}
@@ -17,6 +22,19 @@ asked s =
 known : (s : tie.Start) → Accepted (asked s)
 known s = accepted (asked s) (s .pre)
 
+-- the record of what was found, the patterns and the counts
+abbrev recordWith : Searched → Patterns → List ℕ → Record
+recordWith found patterns counts =
+    record {
+      vector = found .vector;
+      sum = found .sum;
+      vectors = found .vectors;
+      sums = found .sums;
+      «luma_pattern» = patterns .luma;
+      «chroma_pattern» = patterns .chroma;
+      counts = counts;
+    }
+
 search-vectors-requires : tie.Need-search-vectors-requires
 search-vectors-requires c κs =
     known (c .before .before .before .before .before .before .before .before .before .before) .searched
@@ -25,7 +43,13 @@ code-residual-requires : tie.Need-code-residual-requires
 code-residual-requires c κs =
     let r = known (c .before .before .before .before .before .before .before .before .before .before .before .before .before .before) in
     let l = r .lent-is in
-    (record { source = r .source; whole = l .whole; long = refl }, r .quantisable, l .lasts, l .runs, l .levels)
+    record {
+      residual-made = record { source = r .source; whole = l .whole; long = refl };
+      quantisable = r .quantisable;
+      lasts-long = l .lasts;
+      runs-long = l .runs;
+      levels-long = l .levels;
+    }
 
 inter-cbp-requires : tie.Need-inter-cbp-requires
 inter-cbp-requires c κs = search needs
@@ -40,7 +64,7 @@ same-length-3 : tie.Need-same-length-3
 same-length-3 c = search needs
 
 returns : tie.Need-returns
-unfolding recordOf
+unfolding recordAt
 returns c =
     let p = c .before .before .before in
     let k = p .before .before .before .before .before .before in
@@ -48,7 +72,7 @@ returns c =
     let counts = k .code-residual .ensures .0 in
     let found = v .search-vectors .ensures in
     let patterns = p .inter-cbp .ensures ∙ ap patternsOf counts in (
-      λ i. record { vector = found i .vector; sum = found i .sum; vectors = found i .vectors; sums = found i .sums; «luma_pattern» = patterns i .luma; «chroma_pattern» = patterns i .chroma; counts = counts i },
+      λ i. recordWith (found i) (patterns i) (counts i),
       k .code-residual .ensures .1,
     )
 

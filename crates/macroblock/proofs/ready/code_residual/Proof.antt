@@ -1,32 +1,28 @@
 -- `macroblock::ready::code_residual` meets its contract. Assumes nothing.
-use Prim.Native.Nat.{ℕ}
 use mathlib.Core.List.{List}
 use mathlib.Core.Path.{_≡_, refl, ap, _∙_}
 use lib.IntN.{ℤ}
-use lib.ListN.{length, replicate}
-use Rattle.refusal.specs.declared.Reply.{Reply}
+use lib.ListN.{length}
 use Rattle.refusal.specs.declared.Reply.the-variants.{Done}
-use Rattle.refusal.specs.Reply.{done}
 use Rattle.refusal.proofs.Replies.{left}
 use Rattle.coding.specs.declared.Counted.{Counted}
 use Rattle.coding.specs.Residual.{Samples, samples, sourceOf, residualOf}
 use Rattle.coding.specs.Coding.{Quantising, quantisingOf, countsOf, areasOf}
-use Rattle.coding.specs.Reply.{codingReply}
-use Rattle.coding.proofs.Accepted.{residual-ready, coding-ready}
 use Rattle.coding.proofs.SixBlocks.{residual-length}
+use Rattle.macroblock.proofs.Taken.{residual-taken, coding-taken}
 use borrow.Author.Needs.{needs}
 use Rattle.macroblock.proofs.ready.code_residual.Statement.{statement}
 use Rattle.macroblock.proofs.ready.code_residual.Tie as tie
 
 module _ (s : tie.Start) where
-  abbrev byOf : Quantising
-  byOf = let t = s .args .settings in quantisingOf (t .quantiser) (t .«first_method») (s .args .matrix .now) (t .scan)
+  abbrev quantisingAt : Quantising
+  quantisingAt = let t = s .args .settings in quantisingOf (t .quantiser) (t .«first_method») (s .args .matrix .now) (t .scan)
 
   abbrev sourceAt : Samples
   sourceAt = let a = s .args in sourceOf (a .y .now) (a .cb .now) (a .cr .now) (a .size) (a .place)
 
-  abbrev lentOf : Samples
-  lentOf = samples (s .args .pred-y .now) (s .args .pred-cb .now) (s .args .pred-cr .now)
+  abbrev lentAt : Samples
+  lentAt = samples (s .args .lent-y .now) (s .args .lent-cb .now) (s .args .lent-cr .now)
 
 -- the local residual
 abbrev startAt : tie.After-macroblock-residual → tie.Start
@@ -36,29 +32,29 @@ abbrev local : tie.After-macroblock-residual → List ℤ
 local c = c .macroblock-residual .last .1 .1 .1 .1 .1 .1 .1 .1 .0
 
 residual-done : (c : tie.After-macroblock-residual) → c .macroblock-residual .result ≡ Done
-residual-done c = c .macroblock-residual .ensures .0 ∙ residual-ready _ _ _ _ _ (lentOf (startAt c)) _ (startAt c .pre .0)
+residual-done c =
+    let p = startAt c .pre .residual-made in
+    let whole = p .whole in
+    residual-taken _ _ _ _ _ _ _ _ _ _ (c .macroblock-residual .ensures .0) (p .source)
+    (search (whole .luma)) (search (whole .blue, whole .red)) (search (whole .blue, whole .red)) refl
 
-residual-is : (c : tie.After-macroblock-residual) → local c ≡ residualOf (sourceAt (startAt c)) (lentOf (startAt c))
+residual-is : (c : tie.After-macroblock-residual) → local c ≡ residualOf (sourceAt (startAt c)) (lentAt (startAt c))
 residual-is c = left _ _ _ _ _ (residual-done c) refl (c .macroblock-residual .ensures .1 .0)
 
 -- its events
 abbrev residualAt : tie.After-quantise-inter-residual → tie.After-macroblock-residual
 residualAt c = c .before .before .before .before .before .before
 
-coding-done : (c : tie.After-quantise-inter-residual) → let m = residualAt c in let s = startAt m in
-    codingReply 384 (local m) (byOf s) (length (s .args .lasts .now)) (length (s .args .runs .now)) (length (s .args .levels .now)) ≡ Done
-coding-done c =
+counted-is : (c : tie.After-quantise-inter-residual) → let m = residualAt c in
+    c .quantise-inter-residual .result ≡ record { reply = Done; counts = countsOf (quantisingAt (startAt m)) (local m) }
+counted-is c =
     let m = residualAt c in
     let s = startAt m in
-    coding-ready 384 (local m) (byOf s) _ _ _
-    (record {
-      quantisable = s .pre .1;
-      long = ap length (residual-is m) ∙ residual-length (sourceAt s) (lentOf s);
-      small = m .macroblock-residual .ensures .1 .1 (residual-done m);
-      lasts-long = s .pre .2;
-      runs-long = s .pre .3;
-      levels-long = s .pre .4;
-    })
+    let p = s .pre in
+    coding-taken _ _ _ _ _ _ (c .quantise-inter-residual .ensures .0) (p .quantisable)
+    (ap length (residual-is m) ∙ residual-length (sourceAt s) (lentAt s))
+    (m .macroblock-residual .ensures .1 .1 (residual-done m))
+    (search (p .lasts-long, p .runs-long)) (search (p .lasts-long, p .runs-long)) (search (p .levels-long))
 
 slice-aggregate-macroblock-residual : tie.Need-slice-aggregate-macroblock-residual
 slice-aggregate-macroblock-residual c = search needs
@@ -85,14 +81,10 @@ returns : tie.Need-returns
 returns c =
     let k = c .before .before .before .before .before .before in
     let m = residualAt k in
-    let s = startAt m in
-    let e = k .quantise-inter-residual .ensures in
-    let d = coding-done k in
-    let reply : k .quantise-inter-residual .result .reply ≡ Done = ap (λ (x : Counted). x .reply) (e .0) ∙ d in (
-      ap (λ (x : Counted). x .counts) (e .0)
-          ∙ ap (λ (x : Reply). done x (countsOf (byOf s) (local m)) (replicate 6 0)) d
-          ∙ ap (countsOf (byOf s)) (residual-is m),
-      left _ Done _ _ _ reply refl (e .1) ∙ ap (areasOf (byOf s)) (residual-is m),
+    let by = quantisingAt (startAt m) in
+    let is = counted-is k in (
+      ap (λ (x : Counted). x .counts) is ∙ ap (countsOf by) (residual-is m),
+      left _ Done _ _ _ (ap (λ (x : Counted). x .reply) is) refl (k .quantise-inter-residual .ensures .1) ∙ ap (areasOf by) (residual-is m),
     )
 
 pub code-residual-spec : {M : Type 1} → statement M

@@ -81,7 +81,8 @@ returns-2 c =
     let row = s .row .now in
     let m = length row - s .at in
     put-two (s .out .now) (take m (drop (s .at) row)) _ _ m (λ _. getD row (length row - 1) 0)
-    (c .before .before .before .before .before .before .before .copy-straight2 .ensures) (simp (length-take, length-drop) (omega arith)) (c .before .before .fill .ensures)
+    (c .before .before .before .before .before .before .before .copy-straight2 .ensures)
+    (simp (length-take, length-drop) (omega arith)) (c .before .before .fill .ensures)
     ∙ past-last row (s .at) m (length (s .out .now)) (omega arith) (omega arith)
 
 pub copy-from-spec : {M : Type 1} → statement M

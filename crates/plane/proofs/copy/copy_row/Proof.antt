@@ -12,7 +12,7 @@ use Rattle.basis.proofs.Lists.{length-tabulate}
 use Rattle.basis.proofs.Signed.{turned-fits}
 use Rattle.basis.proofs.Slices.{put-two}
 use Rattle.plane.specs.Plane.{clampTo}
-use Rattle.plane.specs.Held.{clampedIn}
+use Rattle.plane.specs.ToldHeld.{clampedIn}
 use Rattle.plane.proofs.Rows.{count-before, before-first}
 use borrow.Author.Needs.{needs}
 use Rattle.plane.proofs.copy.copy_row.Statement.{statement}

@@ -22,7 +22,8 @@ inside : (c : tie.After-clamp-coordinate2) → let a = c .before .before .before
     c .clamp-coordinate2 .result * a .geometry .stride + c .before .clamp-coordinate .result < length (a .samples .now)
 inside c =
     let s = c .before .before .before in
-    in-plane (planeOf (s .args .samples .now) (s .args .geometry)) (c .before .clamp-coordinate .result) (c .clamp-coordinate2 .result) (s .pre) (omega arith) (omega arith)
+    in-plane (planeOf (s .args .samples .now) (s .args .geometry)) (c .before .clamp-coordinate .result) (c .clamp-coordinate2 .result)
+    (s .pre) (omega arith) (omega arith)
 
 mul-result : tie.Need-mul-result
 mul-result c = omega (arith, inside (c .before), c .before .before .before .before .good)

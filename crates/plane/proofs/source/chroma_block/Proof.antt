@@ -1,18 +1,16 @@
 -- `plane::source::chroma_block` meets its contract. Assumes nothing.
-use Prim.Native.Nat.{_*_}
 use native.Mathlib.Omega.{arith}
 use mathlib.Core.Path.{_≡_, refl, sym, ap, subst, _∙_}
-use lib.IntN.{pos}
 use lib.ListN.{length}
-use Rattle.basis.specs.Lists.{raster}
 use Rattle.refusal.specs.declared.Reply.the-variants.{Done}
 use Rattle.refusal.specs.declared.Reply.{Reply}
 use Rattle.refusal.specs.Reply.{andThen}
 use Rattle.refusal.proofs.Replies.{joined, first-done, then-done}
 use Rattle.plane.specs.declared.SourceSize.{SourceSize}
-use Rattle.plane.specs.Plane.{copied}
-use Rattle.plane.specs.Held.{Held}
-use Rattle.plane.specs.Source.{packed, chromaReply}
+use Rattle.plane.specs.Plane.{copiedBlock}
+use Rattle.plane.specs.Corner.{cornerAt}
+use Rattle.plane.specs.ToldHeld.{Held}
+use Rattle.plane.specs.Source.{packed, sourceChromaReply}
 use Rattle.plane.specs.Reference.{lengthReply}
 use Rattle.plane.proofs.Ready.{length-is}
 use Rattle.plane.proofs.ReadySource.{chroma-ready, chroma-held, column-small, row-small}
@@ -21,7 +19,7 @@ use Rattle.plane.proofs.source.chroma_block.Statement.{statement}
 use Rattle.plane.proofs.source.chroma_block.Tie as tie
 
 abbrev sourceOf : tie.Start → Reply
-sourceOf s = chromaReply (s .args .size) (length (s .args .chroma .now)) (s .args .place)
+sourceOf s = sourceChromaReply (s .args .size) (length (s .args .chroma .now)) (s .args .place)
 
 abbrev lengthOf : tie.Start → Reply
 lengthOf s = lengthReply (length (s .args .out .now)) 8 8
@@ -55,13 +53,14 @@ copy-part-requires : tie.Need-copy-part-requires
 copy-part-requires c κs =
     let s = c .before .before .before .before .before .before .before .before .before in
     let e = ready (c .before .before) in
-    let r = chroma-ready _ _ _ (first-done (sourceOf s) (lengthOf s) e) in (
-      subst (λ (z : SourceSize). Held (packed (s .args .chroma .now) z)) (sym (c .before .chroma-size .ensures)) (chroma-held _ _ _ r),
-      column-small _ _ (r .sides) (r .place),
-      row-small _ _ (r .sides) (r .place),
-      omega arith,
-      length-is _ _ _ (then-done (sourceOf s) (lengthOf s) e),
-    )
+    let r = chroma-ready _ _ _ (first-done (sourceOf s) (lengthOf s) e) in
+    record {
+      hold = subst (λ (z : SourceSize). Held (packed (s .args .chroma .now) z)) (sym (c .before .chroma-size .ensures)) (chroma-held _ _ _ r);
+      column-small = column-small _ _ (r .sides) (r .place);
+      row-small = row-small _ _ (r .sides) (r .place);
+      side-small = omega arith;
+      area-fits = length-is _ _ _ (then-done (sourceOf s) (lengthOf s) e);
+    }
 
 returns : tie.Need-returns
 returns c = (sym (c .before .reply .given .1) ∙ answered (c .before .before .before), refl)
@@ -71,8 +70,12 @@ same-length c = search needs
 
 returns-2 : tie.Need-returns-2
 returns-2 c =
-    let a = c .before .before .before .before .before .before .before .before .before .before .before .before .args in
-    (sym (ready (c .before .before .before .before .before)), c .before .before .copy-part .ensures ∙ ap (λ (z : SourceSize). raster 8 8 (copied (packed (a .chroma .now) z) (pos (8 * a .place .column)) (pos (8 * a .place .row)))) (c .before .before .before .before .chroma-size .ensures))
+    let a = c .before .before .before .before .before .before .before .before .before .before .before .before .args in (
+      sym (ready (c .before .before .before .before .before)),
+      c .before .before .copy-part .ensures
+          ∙ ap (λ (z : SourceSize). copiedBlock (packed (a .chroma .now) z) (cornerAt 8 (a .place)) 8 8)
+          (c .before .before .before .before .chroma-size .ensures),
+    )
 
 pub chroma-block-spec : {M : Type 1} → statement M
 chroma-block-spec =

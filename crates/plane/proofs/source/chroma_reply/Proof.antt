@@ -1,8 +1,8 @@
 -- `plane::source::chroma_reply` meets its contract. Assumes nothing.
 use mathlib.Core.Path.{ap, _∙_}
 use Rattle.plane.specs.declared.SourceSize.{SourceSize}
-use Rattle.plane.specs.Source.{holds, chromaReply}
-use Rattle.plane.proofs.ReadySource.{judging}
+use Rattle.plane.specs.Source.{holds, sourceChromaReply}
+use Rattle.plane.proofs.ReadySource.{planes-judged}
 use borrow.Author.Needs.{needs}
 use Rattle.plane.proofs.source.chroma_reply.Statement.{statement}
 use Rattle.plane.proofs.source.chroma_reply.Tie as tie
@@ -26,13 +26,13 @@ and-then-requires : tie.Need-and-then-requires
 and-then-requires c κs = search needs
 
 returns : tie.Need-returns
-unfolding chromaReply
+unfolding sourceChromaReply
 returns c =
     let s = c .before in
     let u = s .before in
     let p = u .before in
     let h = p .before in
-    judging (c .and-then .ensures) (s .source-side-reply .ensures) (u .unless .ensures)
+    planes-judged (c .and-then .ensures) (s .source-side-reply .ensures) (u .unless .ensures)
     (h .holds .ensures ∙ ap (λ (z : SourceSize). holds z (h .before .before .args .chroma)) (h .before .chroma-size .ensures))
     (p .place-reply .ensures)
 

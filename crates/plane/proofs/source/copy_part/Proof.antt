@@ -21,10 +21,10 @@ near a b h k =
     product-le h l
 
 near-x : (s : tie.Start) → s .args .side * s .args .place .column ≤ 16 * 256
-near-x s = near _ _ (s .pre .3) (s .pre .1)
+near-x s = near _ _ (s .pre .side-small) (s .pre .column-small)
 
 near-y : (s : tie.Start) → s .args .side * s .args .place .row ≤ 16 * 256
-near-y s = near _ _ (s .pre .3) (s .pre .2)
+near-y s = near _ _ (s .pre .side-small) (s .pre .row-small)
 
 fit-x : (s : tie.Start) → SFits w32 (pos (s .args .side * s .args .place .column))
 fit-x s = record { sfits = omega (arith, near-x s) }
@@ -45,7 +45,7 @@ cast-t11 : tie.Need-cast-t11
 cast-t11 c = fit-y (c .before .before .before .before)
 
 copy-rows-requires : tie.Need-copy-rows-requires
-copy-rows-requires c κs = search needs
+copy-rows-requires c κs = let p = c .before .before .before .before .before .pre in (p .hold, p .area-fits)
 
 same-length : tie.Need-same-length
 same-length c = search needs

@@ -6,7 +6,7 @@ use Rattle.refusal.specs.declared.Reply.the-variants.{Done}
 use Rattle.refusal.specs.declared.Reply.{Reply}
 use Rattle.refusal.specs.Reply.{andThen}
 use Rattle.refusal.proofs.Replies.{joined, first-done, then-done}
-use Rattle.plane.specs.Source.{lumaReply}
+use Rattle.plane.specs.Source.{sourceLumaReply}
 use Rattle.plane.specs.Reference.{lengthReply}
 use Rattle.plane.proofs.Ready.{length-is}
 use Rattle.plane.proofs.ReadySource.{luma-ready, luma-held, column-small, row-small}
@@ -15,7 +15,7 @@ use Rattle.plane.proofs.source.luma_block.Statement.{statement}
 use Rattle.plane.proofs.source.luma_block.Tie as tie
 
 abbrev sourceOf : tie.Start → Reply
-sourceOf s = lumaReply (s .args .size) (length (s .args .y .now)) (s .args .place)
+sourceOf s = sourceLumaReply (s .args .size) (length (s .args .y .now)) (s .args .place)
 
 abbrev lengthOf : tie.Start → Reply
 lengthOf s = lengthReply (length (s .args .out .now)) 16 16
@@ -46,13 +46,14 @@ copy-part-requires : tie.Need-copy-part-requires
 copy-part-requires c κs =
     let s = c .before .before .before .before .before .before .before .before in
     let e = ready (c .before) in
-    let r = luma-ready _ _ _ (first-done (sourceOf s) (lengthOf s) e) in (
-      luma-held _ _ _ r,
-      column-small _ _ (r .sides) (r .place),
-      row-small _ _ (r .sides) (r .place),
-      omega arith,
-      length-is _ _ _ (then-done (sourceOf s) (lengthOf s) e),
-    )
+    let r = luma-ready _ _ _ (first-done (sourceOf s) (lengthOf s) e) in
+    record {
+      hold = luma-held _ _ _ r;
+      column-small = column-small _ _ (r .sides) (r .place);
+      row-small = row-small _ _ (r .sides) (r .place);
+      side-small = omega arith;
+      area-fits = length-is _ _ _ (then-done (sourceOf s) (lengthOf s) e);
+    }
 
 returns : tie.Need-returns
 returns c = (sym (c .before .reply .given .1) ∙ answered (c .before .before .before), refl)

@@ -1,6 +1,6 @@
 -- `plane::source::luma_reply` meets its contract. Assumes nothing.
-use Rattle.plane.specs.Source.{lumaReply}
-use Rattle.plane.proofs.ReadySource.{judging}
+use Rattle.plane.specs.Source.{sourceLumaReply}
+use Rattle.plane.proofs.ReadySource.{planes-judged}
 use borrow.Author.Needs.{needs}
 use Rattle.plane.proofs.source.luma_reply.Statement.{statement}
 use Rattle.plane.proofs.source.luma_reply.Tie as tie
@@ -21,12 +21,12 @@ and-then-requires : tie.Need-and-then-requires
 and-then-requires c κs = search needs
 
 returns : tie.Need-returns
-unfolding lumaReply
+unfolding sourceLumaReply
 returns c =
     let s = c .before in
     let u = s .before in
     let p = u .before in
-    judging (c .and-then .ensures) (s .source-side-reply .ensures) (u .unless .ensures) (p .before .holds .ensures) (p .place-reply .ensures)
+    planes-judged (c .and-then .ensures) (s .source-side-reply .ensures) (u .unless .ensures) (p .before .holds .ensures) (p .place-reply .ensures)
 
 pub luma-reply-spec : {M : Type 1} → statement M
 luma-reply-spec =

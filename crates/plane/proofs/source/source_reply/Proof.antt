@@ -3,7 +3,7 @@ use mathlib.Core.Bool.{_&&_}
 use mathlib.Core.Path.{_≡_, ap, ap₂, _∙_}
 use Rattle.plane.specs.declared.SourceSize.{SourceSize}
 use Rattle.plane.specs.Source.{chromaSize, holds, sourceReply}
-use Rattle.plane.proofs.ReadySource.{judging}
+use Rattle.plane.proofs.ReadySource.{planes-judged}
 use borrow.Author.Needs.{needs}
 use Rattle.plane.proofs.source.source_reply.Statement.{statement}
 use Rattle.plane.proofs.source.source_reply.Tie as tie
@@ -59,7 +59,7 @@ returns c =
     let s = c .before in
     let u = s .before in
     let p = u .before in
-    judging (c .and-then .ensures) (s .source-side-reply .ensures) (u .unless .ensures) (planes (p .before)) (p .place-reply .ensures)
+    planes-judged (c .and-then .ensures) (s .source-side-reply .ensures) (u .unless .ensures) (planes (p .before)) (p .place-reply .ensures)
 
 pub source-reply-spec : {M : Type 1} → statement M
 source-reply-spec =

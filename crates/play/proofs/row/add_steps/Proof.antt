@@ -40,25 +40,39 @@ part-part-end : tie.Need-part-part-end Inv-loop μ-loop
 part-part-end c = omega (arith, c .before .before .before .before .before .before .before .before .before .pre .0)
 
 step-requires : tie.Need-step-requires Inv-loop μ-loop
-step-requires c κs = part-length (c .before .before .before .before .before .before .before .before .before .before .args .predictions .now) (384 * c .before .before .loop .column) 384 (omega (arith, c .before .before .before .before .before .before .before .before .before .before .pre .0))
+step-requires c κs =
+    let s = c .before .before .before .before .before .before .before .before .before .before in
+    part-length (s .args .predictions .now) (384 * c .before .before .loop .column) 384 (omega (arith, s .pre .0))
 
 add-step-requires : tie.Need-add-step-requires Inv-loop μ-loop
-add-step-requires c κs = omega (arith, c .before .before .before .before .loop .inv .1, c .before .before .before .before .loop .inv .2, c .before .before .before .before .before .before .before .before .before .before .before .before .pre .1)
+add-step-requires c κs =
+    let l = c .before .before .before .before in
+    omega (arith, l .loop .inv .1, l .loop .inv .2, l .before .before .before .before .before .before .before .before .pre .1)
 
 same-length : tie.Need-same-length Inv-loop μ-loop
-same-length c = c .before .before .before .before .add-step .ensures .1 ∙ c .before .before .before .before .before .before .before .before .before .loop .inv .2
+same-length c =
+    let d = c .before .before .before .before in
+    d .add-step .ensures .1 ∙ d .before .before .before .before .before .loop .inv .2
 
 returns : tie.Need-returns Inv-loop μ-loop
-returns c = (omega (arith, c .before .before .before .before .add-step .ensures .0, c .before .before .before .before .before .before .before .before .before .loop .inv .1), c .before .before .before .before .add-step .ensures .1 ∙ c .before .before .before .before .before .before .before .before .before .loop .inv .2)
+returns c =
+    let d = c .before .before .before .before in
+    let l = d .before .before .before .before .before in
+    (omega (arith, d .add-step .ensures .0, l .loop .inv .1), d .add-step .ensures .1 ∙ l .loop .inv .2)
 
 add-column : tie.Need-add-column Inv-loop μ-loop
-add-column c = next-fits _ _ (c .before .before .before .before .before .before .before .before .before .loop-test .taken) (c .before .before .before .before .before .before .before .before .before .before .before .before .before .before .before .before .before .before .fits .whole)
+add-column c =
+    let t = c .before .before .before .before .before .before .before .before .before in
+    next-fits _ _ (t .loop-test .taken) (t .before .before .before .before .before .before .before .before .before .fits .whole)
 
 loop-less : tie.Need-loop-less Inv-loop μ-loop
 loop-less c = omega arith
 
 loop-again : tie.Need-loop-again Inv-loop μ-loop
-loop-again c = (omega arith, omega (arith, c .before .before .before .before .before .add-step .ensures .0, c .before .before .before .before .before .before .before .before .before .before .loop .inv .1), c .before .before .before .before .before .add-step .ensures .1 ∙ c .before .before .before .before .before .before .before .before .before .before .loop .inv .2)
+loop-again c =
+    let d = c .before .before .before .before .before in
+    let l = d .before .before .before .before .before in
+    (omega arith, omega (arith, d .add-step .ensures .0, l .loop .inv .1), d .add-step .ensures .1 ∙ l .loop .inv .2)
 
 same-length-2 : tie.Need-same-length-2 Inv-loop μ-loop
 same-length-2 c = c .before .loop .inv .2

@@ -16,6 +16,13 @@ slice-aggregate-read-first c = search needs
 few : (c : tie.After-macroblocks) → c .macroblocks .result ≤ 11
 few c = omega (arith, c .macroblocks .ensures, small _ (c .before .before .before .before .before .pre) .wide)
 
+-- of what is read no more than eleven predictions are whole, and their lines end before the twelfth line's room
+read-most : (c : tie.After-read-first) → c .read-first .result ≤ 4224
+read-most c = omega (arith, c .read-first .ensures .0, few (c .before .before))
+
+lines-end : (c : tie.After-add-steps) → c .add-steps .result .at ≤ 2178
+lines-end c = omega (arith, c .add-steps .ensures .0, read-most (c .before .before .before .before))
+
 mul-read-first : tie.Need-mul-read-first
 mul-read-first c = record { fits = omega (arith, few (c .before)) }
 
@@ -29,7 +36,9 @@ slice-aggregate-add-steps-2 : tie.Need-slice-aggregate-add-steps-2
 slice-aggregate-add-steps-2 c = search needs
 
 add-steps-requires : tie.Need-add-steps-requires
-add-steps-requires c κs = (omega (arith, c .before .before .before .read-first .ensures .0, c .before .before .before .read-first .ensures .1, few (c .before .before .before .before .before)), omega (arith, c .before .before .before .read-first .ensures .0, c .before .before .before .read-first .ensures .1, few (c .before .before .before .before .before)))
+add-steps-requires c κs =
+    let r = c .before .before .before in
+    (omega (arith, r .read-first .ensures .1, read-most r), omega (arith, read-most r))
 
 slice-aggregate-add-cut : tie.Need-slice-aggregate-add-cut
 slice-aggregate-add-cut c = search needs
@@ -38,13 +47,18 @@ both-requires : tie.Need-both-requires
 both-requires c κs = search needs
 
 add-cut-requires : tie.Need-add-cut-requires
-add-cut-requires c κs = omega (arith, c .before .before .before .before .add-steps .ensures .0, c .before .before .before .before .add-steps .ensures .1, c .before .before .before .before .before .before .before .before .read-first .ensures .0, c .before .before .before .before .before .before .before .before .read-first .ensures .1, few (c .before .before .before .before .before .before .before .before .before .before))
+add-cut-requires c κs =
+    let a = c .before .before .before .before in
+    omega (arith, lines-end a, a .add-steps .ensures .1)
 
 slice-aggregate-print-first : tie.Need-slice-aggregate-print-first
 slice-aggregate-print-first c = search needs
 
 print-first-requires : tie.Need-print-first-requires
-print-first-requires c κs = omega (arith, c .before .before .add-cut .ensures .0, c .before .before .add-cut .ensures .1, c .before .before .before .before .before .before .before .add-steps .ensures .0, c .before .before .before .before .before .before .before .add-steps .ensures .1, c .before .before .before .before .before .before .before .before .before .before .before .read-first .ensures .0, c .before .before .before .before .before .before .before .before .before .before .before .read-first .ensures .1, few (c .before .before .before .before .before .before .before .before .before .before .before .before .before))
+print-first-requires c κs =
+    let k = c .before .before in
+    let a = k .before .before .before .before .before in
+    omega (arith, k .add-cut .ensures .0, k .add-cut .ensures .1, lines-end a, a .add-steps .ensures .1)
 
 both-requires-2 : tie.Need-both-requires-2
 both-requires-2 c κs = search needs

@@ -7,7 +7,8 @@ use Rattle.refusal.specs.Reply.{done}
 use Rattle.record.specs.Zero.{zeroVector}
 use Rattle.plane.specs.declared.Point.{Point}
 use Rattle.plane.specs.Plane.{planeOf}
-use Rattle.prediction.specs.Luma.{lumaBlock, lumaReply}
+use Rattle.plane.specs.Corner.{squareAt}
+use Rattle.prediction.specs.Luma.{predictedBlock, predictReply}
 use borrow.Author.Needs.{needs}
 use Rattle.prediction.proofs.blocks.predict_block.Statement.{statement}
 use Rattle.prediction.proofs.blocks.predict_block.Tie as tie
@@ -18,8 +19,8 @@ mul-v c = search needs
 array-copy-out-v : tie.Need-array-copy-out-v
 array-copy-out-v c = search needs
 
-block-origin-requires : tie.Need-block-origin-requires
-block-origin-requires c κs = search needs
+block-corner-requires : tie.Need-block-corner-requires
+block-corner-requires c κs = search needs
 
 predict-luma-block-requires : tie.Need-predict-luma-block-requires
 predict-luma-block-requires c κs = search needs
@@ -34,12 +35,14 @@ returns c =
     let s = b .before .before .before .before in
     let a = s .args in
     let v = getD (a .t4) (a .k) zeroVector in
-    let e = b .block-origin .ensures in
+    let p = planeOf (a .samples .now) (a .geometry) in
+    let e = b .block-corner .ensures in
     f .predict-luma-block .ensures .1
-    ∙ ap (λ (r : Reply). done r (lumaBlock (a .mode) (planeOf (a .samples .now) (a .geometry)) v (b .block-origin .result) 8 8 (a .rounding)) (a .out .now))
+    ∙ ap (λ (r : Reply). done r (predictedBlock (a .mode) p (squareAt (b .block-corner .result) 8) (a .rounding) v) (a .out .now))
     (f .predict-luma-block .ensures .0
-    ∙ ap₂ (λ (o : Point) (n : ℕ). lumaReply (a .mode) (a .geometry) (length (a .samples .now)) v o 8 8 n) e (s .pre .2) ∙ s .pre .0 .each (a .k) (s .pre .1))
-    ∙ ap (λ (o : Point). lumaBlock (a .mode) (planeOf (a .samples .now) (a .geometry)) v o 8 8 (a .rounding)) e
+    ∙ ap₂ (λ (o : Point) (n : ℕ). predictReply (a .mode) (a .geometry) (length (a .samples .now)) v (squareAt o 8) n) e (s .pre .2)
+    ∙ s .pre .0 .each (a .k) (s .pre .1))
+    ∙ ap (λ (o : Point). predictedBlock (a .mode) p (squareAt o 8) (a .rounding) v) e
 
 pub predict-block-spec : {M : Type 1} → statement M
 predict-block-spec =
@@ -47,7 +50,7 @@ predict-block-spec =
     (tie.spec
     mul-v
     array-copy-out-v
-    block-origin-requires
+    block-corner-requires
     predict-luma-block-requires
     same-length
     returns)

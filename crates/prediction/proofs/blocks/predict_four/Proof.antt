@@ -1,5 +1,5 @@
 -- `prediction::blocks::predict_four` meets its contract. Assumes nothing.
-use Prim.Native.Nat.{ℕ, _-_, _*_, _≤_, _%_}
+use Prim.Native.Nat.{ℕ, _-_, _*_, _≤_}
 use native.Mathlib.Omega.{arith}
 use mathlib.Core.List.{List}
 use mathlib.Core.Path.{_≡_, refl, sym}
@@ -11,31 +11,30 @@ use Rattle.record.specs.Zero.{zeroVector}
 use Rattle.plane.specs.declared.Geometry.{Geometry}
 use Rattle.plane.specs.declared.Point.{Point}
 use Rattle.plane.specs.Plane.{planeOf}
+use Rattle.plane.specs.Corner.{blockCorner, squareAt}
 use Rattle.prediction.specs.declared.BVopSampleMode.{BVopSampleMode}
-use Rattle.prediction.specs.Luma.{lumaSample, lumaBlock}
-use Rattle.prediction.specs.Macroblock.{blockOrigin}
+use Rattle.prediction.specs.Luma.{predictedSample, predictedBlock}
+use Rattle.prediction.specs.ToldFour.{eightBlock}
 use Rattle.prediction.proofs.blocks.predict_four.Statement.{statement}
 use Rattle.prediction.proofs.blocks.predict_four.Tie as tie
 
--- block k, of 64 samples
-abbrev blockOf : List ℕ → Geometry → BVopSampleMode → List MotionVector → Point → ℕ → ℕ → List ℕ
-blockOf s g m vs o rounding k = lumaBlock m (planeOf s g) (getD vs k zeroVector) (blockOrigin o k) 8 8 rounding
-
-long : (s : List ℕ) (g : Geometry) (m : BVopSampleMode) (vs : List MotionVector) (o : Point) (rounding k : ℕ) → length (blockOf s g m vs o rounding k) ≡ 64
-unfolding lumaBlock
-long s g m vs o rounding k = length-raster 8 8 (lumaSample m (planeOf s g) (getD vs k zeroVector) (blockOrigin o k) 8 8 (rounding % 2))
+-- each block has 64 samples
+long : (s : List ℕ) (g : Geometry) (m : BVopSampleMode) (vs : List MotionVector) (o : Point) (rounding k : ℕ)
+    → length (eightBlock m (planeOf s g) vs o rounding k) ≡ 64
+unfolding predictedBlock
+long s g m vs o rounding k = length-raster 8 8 (predictedSample m (planeOf s g) (squareAt (blockCorner o k) 8) rounding (getD vs k zeroVector))
 
 abbrev Inv-loop : tie.InvT-loop
-Inv-loop samples geometry mode vectors origin rounding out₀ k₀ out k =
-    (k ≤ 4) × (length out ≡ length out₀) × (out ≡ laid 64 (blockOf samples geometry mode vectors origin rounding) k out₀)
+Inv-loop samples geometry mode vectors corner rounding out₀ k₀ out k =
+    (k ≤ 4) × (length out ≡ length out₀) × (out ≡ laid 64 (eightBlock mode (planeOf samples geometry) vectors corner rounding) k out₀)
 
 abbrev μ-loop : tie.MeasureT-loop
-μ-loop samples geometry mode vectors origin rounding out₀ k₀ out k = 4 - k
+μ-loop samples geometry mode vectors corner rounding out₀ k₀ out k = 4 - k
 
 loop-holds : tie.Need-loop-holds Inv-loop μ-loop
 loop-holds c =
     let a = c .before .before .args in
-    (omega arith, refl, sym (laid-none _ _ (λ j. long (a .samples .now) (a .geometry) (a .mode) (a .vectors) (a .origin) (a .rounding) j) _))
+    (omega arith, refl, sym (laid-none _ _ (λ j. long (a .samples .now) (a .geometry) (a .mode) (a .vectors) (a .corner) (a .rounding) j) _))
 
 mul-from : tie.Need-mul-from Inv-loop μ-loop
 mul-from c = omega arith
@@ -67,8 +66,12 @@ loop-less c = omega arith
 loop-again : tie.Need-loop-again Inv-loop μ-loop
 loop-again c =
     let l = c .before .before .before .before .before in
-    let s = l .before .before .before in
-    (omega arith, omega arith, laid-put _ _ (λ j. long (s .args .samples .now) (s .args .geometry) (s .args .mode) (s .args .vectors) (s .args .origin) (s .args .rounding) j) (l .loop .k) (s .args .out .now) (l .loop .out) _ (l .loop .inv .2) (c .before .before .predict-block .ensures))
+    let a = l .before .before .before .args in (
+      omega arith,
+      omega arith,
+      laid-put _ _ (λ j. long (a .samples .now) (a .geometry) (a .mode) (a .vectors) (a .corner) (a .rounding) j) (l .loop .k) (a .out .now)
+          (l .loop .out) _ (l .loop .inv .2) (c .before .before .predict-block .ensures),
+    )
 
 same-length : tie.Need-same-length Inv-loop μ-loop
 same-length c = omega arith
@@ -76,7 +79,8 @@ same-length c = omega arith
 returns : tie.Need-returns Inv-loop μ-loop
 returns c =
     let a = c .before .before .before .before .args in
-    laid-end _ _ (λ j. long (a .samples .now) (a .geometry) (a .mode) (a .vectors) (a .origin) (a .rounding) j) _ _ _ _ (c .before .loop .inv .2) (omega arith) (omega arith)
+    laid-end _ _ (λ j. long (a .samples .now) (a .geometry) (a .mode) (a .vectors) (a .corner) (a .rounding) j) _ _ _ _
+    (c .before .loop .inv .2) (omega arith) (omega arith)
 
 pub predict-four-spec : {M : Type 1} → statement M
 predict-four-spec =

@@ -7,7 +7,7 @@ use lib.ListN.{length, getD}
 use Rattle.basis.specs.Lists.{tabulate}
 use Rattle.basis.proofs.Slices.{part-length}
 use Rattle.basis.proofs.Lists.{length-tabulate, laid, laid-none, laid-put, laid-end}
-use Rattle.prediction.specs.Four.{partAt}
+use Rattle.prediction.specs.ToldFour.{partAt}
 use Rattle.prediction.proofs.blocks.weave.Statement.{statement}
 use Rattle.prediction.proofs.blocks.weave.Tie as tie
 
@@ -55,8 +55,11 @@ loop-less c = omega arith
 loop-again : tie.Need-loop-again Inv-loop μ-loop
 loop-again c =
     let l = c .before .before .before .before .before in
-    let s = l .before .before .before in
-    (omega arith, omega arith, laid-put _ _ (λ j. length-tabulate _ _) (l .loop .n) (s .args .out .now) (l .loop .out) _ (l .loop .inv .2) (c .before .before .weave-part .ensures))
+    let a = l .before .before .before .args in (
+      omega arith,
+      omega arith,
+      laid-put _ _ (λ j. length-tabulate _ _) (l .loop .n) (a .out .now) (l .loop .out) _ (l .loop .inv .2) (c .before .before .weave-part .ensures),
+    )
 
 same-length : tie.Need-same-length Inv-loop μ-loop
 same-length c = omega arith

@@ -7,7 +7,7 @@ use Rattle.basis.proofs.Slices.{part-length, part-tabulate}
 use Rattle.refusal.specs.declared.Reply.{Reply}
 use Rattle.refusal.specs.Reply.{done}
 use Rattle.plane.proofs.Ready.{same-done}
-use Rattle.prediction.specs.Four.{partAt}
+use Rattle.prediction.specs.ToldFour.{partAt}
 use borrow.Author.Needs.{needs}
 use Rattle.prediction.proofs.blocks.weave_part.Statement.{statement}
 use Rattle.prediction.proofs.blocks.weave_part.Tie as tie
@@ -57,7 +57,8 @@ returns c =
     let at = partAt (s .args .n) in
     d .copy-samples .ensures .1
     ∙ ap (λ (r : Reply). done r (take (at + 8 - at) (drop at b)) (s .args .out .now))
-    (d .copy-samples .ensures .0 ∙ same-done (length (take (at + 8 - at) (drop at b))) (length (s .args .out .now)) (part-length b at 8 (inside s) ∙ omega arith))
+    (d .copy-samples .ensures .0
+    ∙ same-done (length (take (at + 8 - at) (drop at b))) (length (s .args .out .now)) (part-length b at 8 (inside s) ∙ omega arith))
     ∙ part-tabulate b at 8 (λ i. getD b (at + i) 0) 0 (inside s) (λ i h. refl)
 
 pub weave-part-spec : {M : Type 1} → statement M

@@ -12,7 +12,8 @@ use mir.ValLaws.{toZ-ofZ, toZ-pos}
 use borrow.Author.Tests.{eq-eqb, ne-eqb}
 use Rattle.basis.proofs.Case.{then, else}
 use Rattle.basis.proofs.Signed.{of-bits}
-use Rattle.quantise.specs.Level.{signed, cutTo, inverseSize, inverseOf}
+use Rattle.basis.specs.Cut.{cutTo}
+use Rattle.quantise.specs.Level.{signed, inverseSize, inverseByQuantiser}
 use Rattle.quantise.proofs.Signs.{minus-signed, plus-signed, minus-fits, minus-read, inverse-most}
 use borrow.Author.Needs.{needs}
 use Rattle.quantise.proofs.level.inverse_quant_method2_coef.Statement.{statement}
@@ -25,7 +26,8 @@ l-is : (c : tie.After-magnitude) → c .magnitude .result ≡ natAbs (c .before 
 l-is c = c .magnitude .ensures ∙ ap natAbs (level-is (c .before))
 
 -- what the level stands for, in size
-size-is : (c : tie.After-inverse-size) → c .inverse-size .result ≡ inverseSize (c .before .before .before .args .quantiser-scale) (natAbs (c .before .before .before .args .level))
+size-is : (c : tie.After-inverse-size) → let a = c .before .before .before .args in
+    c .inverse-size .result ≡ inverseSize (a .quantiser-scale) (natAbs (a .level))
 size-is c = c .inverse-size .ensures ∙ ap (inverseSize (c .before .before .before .args .quantiser-scale)) (l-is (c .before .before))
 
 size-most : (c : tie.After-inverse-size) → c .inverse-size .result ≤ 126945
@@ -37,10 +39,10 @@ some : (c : tie.Else1) → eqb (natAbs (c .before .before .args .level)) 0 ≡ f
 some c = ne-eqb _ 0 (λ e. c .if1 .left (l-is (c .before) ∙ e))
 
 magnitude-requires : tie.Need-magnitude-requires
-magnitude-requires c κs = subst (λ (z : ℤ). natAbs z ≤ 2048) (sym (level-is c)) (omega (arith, c .pre .0))
+magnitude-requires c κs = search needs
 
 returns : tie.Need-returns
-unfolding inverseOf
+unfolding inverseByQuantiser
 returns c = sym (then _ _ _ (eq-eqb _ 0 (sym (l-is (c .before)) ∙ c .if1 .taken)))
 
 inverse-size-requires : tie.Need-inverse-size-requires
@@ -59,7 +61,7 @@ clamp-requires-2 : tie.Need-clamp-requires-2
 clamp-requires-2 c κs = search needs
 
 returns-2 : tie.Need-returns-2
-unfolding inverseOf
+unfolding inverseByQuantiser
 returns-2 c =
     let t = c .before in
     let z = t .before in
@@ -74,7 +76,7 @@ returns-2 c =
     ∙ sym (else _ _ _ (some (z .before)))
 
 returns-3 : tie.Need-returns-3
-unfolding inverseOf
+unfolding inverseByQuantiser
 returns-3 c =
     let t = c .before in
     let z = t .before in

@@ -2,7 +2,7 @@
 use native.Mathlib.Omega.{arith}
 use mathlib.Core.Path.{_≡_}
 use borrow.Author.Needs.{needs}
-use Rattle.quarter_sample.specs.Passes.{mix}
+use Rattle.quarter_sample.specs.ToldPasses.{mix}
 use Rattle.quarter_sample.proofs.filter.at_fraction.Statement.{statement}
 use Rattle.quarter_sample.proofs.filter.at_fraction.Tie as tie
 

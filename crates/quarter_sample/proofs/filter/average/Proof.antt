@@ -4,14 +4,14 @@ use borrow.Author.Needs.{needs}
 use Rattle.quarter_sample.proofs.filter.average.Statement.{statement}
 use Rattle.quarter_sample.proofs.filter.average.Tie as tie
 
-add-v : tie.Need-add-v
-add-v c = search needs
+add-mean : tie.Need-add-mean
+add-mean c = search needs
 
-add-v-2 : tie.Need-add-v-2
-add-v-2 c = search needs
+add-mean-2 : tie.Need-add-mean-2
+add-mean-2 c = search needs
 
-sub-v : tie.Need-sub-v
-sub-v c = search needs
+sub-mean : tie.Need-sub-mean
+sub-mean c = search needs
 
 returns : tie.Need-returns
 returns c = omega arith
@@ -23,4 +23,4 @@ returns-2 : tie.Need-returns-2
 returns-2 c = omega arith
 
 pub average-spec : {M : Type 1} → statement M
-average-spec = tie.close (tie.spec add-v add-v-2 sub-v returns cast-result returns-2)
+average-spec = tie.close (tie.spec add-mean add-mean-2 sub-mean returns cast-result returns-2)

@@ -4,13 +4,14 @@ use native.Mathlib.Omega.{arith}
 use mathlib.Core.Path.{ap, _∙_, _≡_, refl, sym}
 use lib.ListN.{getD, length, length-set}
 use Rattle.basis.proofs.Lists.{filled, filled-none, filled-set, filled-end}
-use Rattle.quarter_sample.specs.Passes.{mix, mixTaps, mixRows}
+use Rattle.quarter_sample.specs.ToldPasses.{mix, mixTaps, mixRows}
 use Rattle.quarter_sample.proofs.filter.filter_taps.Statement.{statement}
 use Rattle.quarter_sample.proofs.filter.filter_taps.Tie as tie
 
 abbrev Inv-loop : tie.InvT-loop
 Inv-loop t0 t1 t2 t3 t4 t5 t6 t7 fraction rc max out₀ i₀ i-end out i =
-    (i ≤ i-end) × (i-end ≡ length out₀) × (length out ≡ length out₀) × (out ≡ filled i (mixRows rc max fraction t0 t1 t2 t3 t4 t5 t6 t7) out₀)
+    (i ≤ i-end) × (i-end ≡ length out₀) × (length out ≡ length out₀)
+    × (out ≡ filled i (mixRows rc max fraction t0 t1 t2 t3 t4 t5 t6 t7) out₀)
 
 abbrev μ-loop : tie.MeasureT-loop
 μ-loop t0 t1 t2 t3 t4 t5 t6 t7 fraction rc max out₀ i₀ i-end out i = i-end - i
@@ -63,17 +64,25 @@ add-i c = omega arith
 loop-less : tie.Need-loop-less Inv-loop μ-loop
 loop-less c = omega arith
 
+-- where a turn began, and the call
+abbrev turn : tie.After-fir Inv-loop μ-loop → tie.At-loop Inv-loop μ-loop
+turn c = c .before .before .before .before .before .before .before .before .before .before
+
+abbrev start : tie.At-loop Inv-loop μ-loop → tie.Start Inv-loop μ-loop
+start c = c .before .before .before .before .before .before .before .before .before .before
+
 loop-again : tie.Need-loop-again Inv-loop μ-loop
 unfolding mixTaps
 loop-again c =
-    let l = c .before .before .before .before .before .before .before .before .before .before .before .before .before .loop in
-    let a = c .before .before .before .before .before .before .before .before .before .before .before .before .before .before .before .before .before .before .before .before .before .before .before .args in (
+    let f = c .before .before .before in
+    let l = turn f .loop in
+    let a = start (turn f) .args in (
       omega arith,
       omega arith,
       simp length-set (omega arith),
       filled-set _ _ _ _ _ (l .inv .3)
           (c .at-fraction .ensures
-          ∙ ap (λ (n : ℕ). mix (a .rc) (a .max) (a .fraction) (getD (a .t3 .now) (l .i) 0) n (getD (a .t4 .now) (l .i) 0)) (c .before .before .before .fir .ensures))
+          ∙ ap (λ (n : ℕ). mix (a .rc) (a .max) (a .fraction) (getD (a .t3 .now) (l .i) 0) n (getD (a .t4 .now) (l .i) 0)) (f .fir .ensures))
           (omega arith),
     )
 

@@ -40,16 +40,22 @@ add-down-3 : tie.Need-add-down-3
 add-down-3 c = search needs
 
 returns : tie.Need-returns
-returns c = let a = c .before .args in omega (arith, fir-eighths (a .s0) (a .s1) (a .s2) (a .s3) (a .s4) (a .s5) (a .s6) (a .s7) (a .rc) (a .max) (c .before .pre))
+returns c =
+    let a = c .before .args in
+    omega (arith, fir-eighths (a .s0) (a .s1) (a .s2) (a .s3) (a .s4) (a .s5) (a .s6) (a .s7) (a .rc) (a .max) (c .before .pre))
 
 returns-2 : tie.Need-returns-2
-returns-2 c = let a = c .before .before .args in omega (arith, fir-eighths (a .s0) (a .s1) (a .s2) (a .s3) (a .s4) (a .s5) (a .s6) (a .s7) (a .rc) (a .max) (c .before .before .pre))
+returns-2 c =
+    let a = c .before .before .args in
+    omega (arith, fir-eighths (a .s0) (a .s1) (a .s2) (a .s3) (a .s4) (a .s5) (a .s6) (a .s7) (a .rc) (a .max) (c .before .before .pre))
 
 cast-result : tie.Need-cast-result
 cast-result c = search needs
 
 returns-3 : tie.Need-returns-3
-returns-3 c = let a = c .before .before .args in omega (arith, fir-eighths (a .s0) (a .s1) (a .s2) (a .s3) (a .s4) (a .s5) (a .s6) (a .s7) (a .rc) (a .max) (c .before .before .pre))
+returns-3 c =
+    let a = c .before .before .args in
+    omega (arith, fir-eighths (a .s0) (a .s1) (a .s2) (a .s3) (a .s4) (a .s5) (a .s6) (a .s7) (a .rc) (a .max) (c .before .before .pre))
 
 pub fir-spec : {M : Type 1} → statement M
 fir-spec =

@@ -2,7 +2,7 @@
 use native.Mathlib.Omega.{arith}
 use native.Mathlib.Nat.{le-antisymm}
 use mathlib.Core.Path.{_≡_}
-use Rattle.basis.proofs.Small.{after}
+use Rattle.basis.proofs.Small.{next-up}
 use Rattle.quarter_sample.proofs.filter.largest_sample.Statement.{statement}
 use Rattle.quarter_sample.proofs.filter.largest_sample.Tie as tie
 
@@ -28,9 +28,16 @@ returns-7 : tie.Need-returns-7
 returns-7 c = rw (c .match .keys7)
 
 returns-8 : tie.Need-returns-8
-returns-8 c = let r = c .match .rest in
-    let e : c .before .args .bpp ≡ 8 =
-    le-antisymm (omega arith) (after 7 (after 6 (after 5 (after 4 (after 3 (after 2 (after 1 (c .before .pre .0) (r .0 .0 .0 .0 .0 .0 .1)) (r .0 .0 .0 .0 .0 .1)) (r .0 .0 .0 .0 .1)) (r .0 .0 .0 .1)) (r .0 .0 .1)) (r .0 .1)) (r .1)) in
+returns-8 c =
+    let r7 = c .match .rest in
+    let r6 = r7 .0 in
+    let r5 = r6 .0 in
+    let r4 = r5 .0 in
+    let r3 = r4 .0 in
+    let r2 = r3 .0 in
+    let from4 = next-up 3 (next-up 2 (next-up 1 (c .before .pre .0) (r2 .0 .1)) (r2 .1)) (r3 .1) in
+    let from8 = next-up 7 (next-up 6 (next-up 5 (next-up 4 from4 (r4 .1)) (r5 .1)) (r6 .1)) (r7 .1) in
+    let e : c .before .args .bpp ≡ 8 = le-antisymm (omega arith) from8 in
     rw e
 
 pub largest-sample-spec : {M : Type 1} → statement M

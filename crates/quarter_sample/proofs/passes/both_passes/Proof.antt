@@ -13,6 +13,9 @@ fits w h p q =
     let k : h + 1 ≤ 17 = omega arith in
     product-le k p
 
+small : (s : tie.Start) → (s .args .wanted .height + 1) * s .args .wanted .width ≤ 272
+small s = fits (s .args .wanted .width) (s .args .wanted .height) (s .pre .0 .width-high) (s .pre .0 .height-high)
+
 add-count : tie.Need-add-count
 add-count c = search needs
 
@@ -20,15 +23,15 @@ mul-count : tie.Need-mul-count
 mul-count c = search needs
 
 array-borrow-prefix-middle : tie.Need-array-borrow-prefix-middle
-array-borrow-prefix-middle c = fits (c .before .before .args .w) (c .before .before .args .h) (omega arith) (omega arith)
+array-borrow-prefix-middle c = small (c .before .before .before .before)
 
 slice-aggregate-pass-through : tie.Need-slice-aggregate-pass-through
-slice-aggregate-pass-through c = sym (length-take-le _ _ (fits (c .before .before .before .args .w) (c .before .before .before .args .h) (omega arith) (omega arith)))
+slice-aggregate-pass-through c = sym (length-take-le _ _ (small (c .before .before .before .before .before)))
 
 pass-through-requires : tie.Need-pass-through-requires
 pass-through-requires c κs =
-    let s = c .before .before .before .before in
-    (omega arith, omega arith, omega arith, omega arith, omega arith, omega arith, omega arith, omega arith, length-take-le _ _ (fits (s .args .w) (s .args .h) (omega arith) (omega arith)), omega arith)
+    let s = c .before .before .before .before .before .before in
+    (s .pre .0, (s .pre .1, s .pre .2, length-take-le _ _ (small s)))
 
 same-length : tie.Need-same-length
 same-length c = search needs

@@ -2,21 +2,27 @@
 use Prim.Native.Nat.{ℕ, _+_, _-_, _*_, _≤_}
 use native.Mathlib.Omega.{arith}
 use mathlib.Core.Path.{_≡_, refl, sym, ap, _∙_}
+use mathlib.Core.List.{List}
 use lib.ListN.{length}
 use Rattle.basis.specs.Lists.{tabulate}
 use Rattle.basis.proofs.Bounds.{row-before}
 use Rattle.basis.proofs.Lists.{length-tabulate, laid, laid-none, laid-put, laid-end}
 use Rattle.basis.proofs.Slices.{part-length}
-use Rattle.quarter_sample.specs.Passes.{step, columnLine}
+use Rattle.quarter_sample.specs.declared.Wanted.{Wanted}
+use Rattle.quarter_sample.specs.ToldPasses.{step, columnLine}
 use Rattle.quarter_sample.proofs.passes.column_pass.Statement.{statement}
 use Rattle.quarter_sample.proofs.passes.column_pass.Tie as tie
 
+-- row j of the result, out of `size` rows
+abbrev rowAt : List ℕ → ℕ → Wanted → ℕ → ℕ → ℕ → ℕ → List ℕ
+rowAt src stride wanted fraction w size j = tabulate w (λ i. step (wanted .rc) (wanted .max) fraction (columnLine src stride size i) j)
+
 abbrev Inv-loop : tie.InvT-loop
-Inv-loop src stride w h fraction rc max out₀ size j₀ out j =
-    (j ≤ h) × (length out ≡ length out₀) × (out ≡ laid w (λ j. tabulate w (λ i. step rc max fraction (columnLine src stride (h + 1) i) j)) j out₀)
+Inv-loop src stride wanted fraction out₀ w size j₀ j-end out j =
+    (j ≤ j-end) × (length out ≡ length out₀) × (out ≡ laid w (rowAt src stride wanted fraction w size) j out₀)
 
 abbrev μ-loop : tie.MeasureT-loop
-μ-loop src stride w h fraction rc max out₀ size j₀ out j = h - j
+μ-loop src stride wanted fraction out₀ w size j₀ j-end out j = j-end - j
 
 add-size : tie.Need-add-size Inv-loop μ-loop
 add-size c = omega arith
@@ -24,9 +30,15 @@ add-size c = omega arith
 loop-holds : tie.Need-loop-holds Inv-loop μ-loop
 loop-holds c = (omega arith, refl, sym (laid-none _ _ (λ j. length-tabulate _ _) _))
 
+abbrev startOf : tie.In-loop Inv-loop μ-loop → tie.Start Inv-loop μ-loop
+startOf c = c .before .before .before .before .before
+
+abbrev wantedOf : tie.In-loop Inv-loop μ-loop → Wanted
+wantedOf c = startOf c .args .wanted
+
 -- row j of the result lies within it
-inside : (c : tie.In-loop Inv-loop μ-loop) → let a = c .before .before .before .before .args in c .before .loop .j * a .w + a .w ≤ a .h * a .w
-inside c = row-before (c .before .before .before .before .args .w) (c .loop-test .taken)
+inside : (c : tie.In-loop Inv-loop μ-loop) → let w = wantedOf c .width in c .before .loop .j * w + w ≤ wantedOf c .height * w
+inside c = row-before (wantedOf c .width) (c .loop-test .taken)
 
 mul-from : tie.Need-mul-from Inv-loop μ-loop
 mul-from c = omega (arith, inside c)
@@ -45,10 +57,20 @@ part-filter-column-row-end c = omega (arith, inside c)
 
 filter-column-row-requires : tie.Need-filter-column-row-requires Inv-loop μ-loop
 filter-column-row-requires c κs =
-    let a = c .before .before .before .before .before .args in
-    let j = c .before .before .loop .j in
-    let e = part-length (c .before .before .loop .out) (j * a .w) (a .w) (omega (arith, inside (c .before))) in
-    (omega arith, omega arith, omega arith, omega arith, omega arith, omega arith, omega arith, omega arith)
+    let t = c .before in
+    let s = startOf t in
+    let w = wantedOf t .width in
+    let l = t .before .loop in
+    record {
+      narrow = omega (arith, s .pre .narrow, part-length (l .out) (l .j * w) w (omega (arith, inside t)));
+      stride-high = s .pre .stride-high;
+      size-low = omega (arith, s .pre .height-low);
+      size-high = omega (arith, s .pre .height-high);
+      j-high = omega arith;
+      inside = s .pre .inside;
+      fraction-small = s .pre .fraction-small;
+      rc-small = s .pre .rc-small;
+    }
 
 add-j : tie.Need-add-j Inv-loop μ-loop
 add-j c = omega arith
@@ -58,14 +80,16 @@ loop-less c = omega arith
 
 loop-again : tie.Need-loop-again Inv-loop μ-loop
 loop-again c =
-    let l = c .before .before .before .before .before in
-    let a = c .before .before .before .before .before .before .before .before .args in (
+    let t = c .before .before .before .before in
+    let l = t .before in
+    let a = startOf t .args in
+    let w = a .wanted .width in (
       omega arith,
       omega arith,
       laid-put _ _ (λ j. length-tabulate _ _) (l .loop .j) (a .out .now) (l .loop .out) _ (l .loop .inv .2)
           (c .before .before .filter-column-row .ensures
-          ∙ ap (λ (k : ℕ). tabulate k (λ i. step (a .rc) (a .max) (a .fraction) (columnLine (a .src .now) (a .stride) (a .h + 1) i) (l .loop .j)))
-          (part-length (l .loop .out) (l .loop .j * a .w) (a .w) (omega (arith, inside (c .before .before .before .before))))),
+          ∙ ap (λ (k : ℕ). rowAt (a .src .now) (a .stride) (a .wanted) (a .fraction) k (a .wanted .height + 1) (l .loop .j))
+          (part-length (l .loop .out) (l .loop .j * w) w (omega (arith, inside t)))),
     )
 
 same-length : tie.Need-same-length Inv-loop μ-loop

@@ -9,7 +9,7 @@ use borrow.Author.Needs.{needs}
 use Rattle.basis.specs.Lists.{tabulate}
 use Rattle.basis.proofs.Lists.{length-tabulate}
 use Rattle.basis.proofs.Slices.{put-after, put-rest, put-length}
-use Rattle.quarter_sample.specs.Passes.{reflected}
+use Rattle.quarter_sample.specs.ToldPasses.{reflected}
 use Rattle.quarter_sample.proofs.Buffers.{extended}
 use Rattle.quarter_sample.proofs.passes.extend_row.Statement.{statement}
 use Rattle.quarter_sample.proofs.passes.extend_row.Tie as tie
@@ -58,22 +58,24 @@ returns c =
     let s = c .before .before .before .before .before .before .before .before .before .before .before .before .before .before in
     let row = s .args .row .now in
     let line = s .args .line .now in
-    let x = c .before .before .before .before .before .before .before .before .before .before .reflect .last .1 .1 .0 in
-    let y = c .before .before .before .before .before .before .copy-straight .last .1 .0 in
+    let cy = c .before .before .before .before .before .before in
+    let cx = cy .before .before .before .before in
+    let x = cx .reflect .last .1 .1 .0 in
+    let y = cy .copy-straight .last .1 .0 in
     let z = c .before .before .reflect2 .last .1 .1 .0 in
     let l = take 3 (x ++ drop 3 line) ++ (y ++ drop (3 + length row - 3) (drop 3 (x ++ drop 3 line))) in
     let pre = s .pre in
     let three = length-take-le 3 line (omega arith) in
-    let hx : length x ≡ 3 = ap length (c .before .before .before .before .before .before .before .before .before .before .reflect .ensures) ∙ length-tabulate _ _ ∙ three in
-    let hy : length y ≡ length row = ap length (c .before .before .before .before .before .before .copy-straight .ensures) in
+    let hx : length x ≡ 3 = ap length (cx .reflect .ensures) ∙ length-tabulate _ _ ∙ three in
+    let hy : length y ≡ length row = ap length (cy .copy-straight .ensures) in
     let first : length (x ++ drop 3 line) ≡ length line = length-append x (drop 3 line) ∙ omega (arith, length-drop 3 line) in
     let whole : length l ≡ length row + 6 = put-length (x ++ drop 3 line) y 3 (3 + length row) (omega arith) (omega arith) ∙ first ∙ pre .2 in
     let rest : length (take (length l - (3 + length row)) (drop (3 + length row) l)) ≡ 3 =
     length-take (length l - (3 + length row)) (drop (3 + length row) l) ∙ omega (arith, length-drop (3 + length row) l) in
     put-rest l (x ++ y) z (3 + length row) (put-after x (drop 3 line) y 3 (3 + length row) hx (omega arith))
-    ∙ ap (λ (t : List ℕ). (x ++ t) ++ z) (c .before .before .before .before .before .before .copy-straight .ensures)
+    ∙ ap (λ (t : List ℕ). (x ++ t) ++ z) (cy .copy-straight .ensures)
     ∙ extended row x z (length line) (omega arith)
-    (c .before .before .before .before .before .before .before .before .before .before .reflect .ensures ∙ ap (λ (n : ℕ). tabulate n (λ k. reflected row (0 + k))) three)
+    (cx .reflect .ensures ∙ ap (λ (n : ℕ). tabulate n (λ k. reflected row (0 + k))) three)
     (c .before .before .reflect2 .ensures ∙ ap (λ (n : ℕ). tabulate n (λ k. reflected row (3 + length row + k))) rest)
 
 pub extend-row-spec : {M : Type 1} → statement M

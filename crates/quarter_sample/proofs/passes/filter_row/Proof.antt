@@ -4,8 +4,8 @@ use mathlib.Core.Path.{ap, _∙_}
 use lib.ListN.{length}
 use borrow.Author.Needs.{needs}
 use Rattle.basis.proofs.Lists.{length-tabulate}
-use Rattle.quarter_sample.specs.Passes.{rowLine}
-use Rattle.quarter_sample.proofs.Buffers.{rows-step, line-taps}
+use Rattle.quarter_sample.specs.ToldPasses.{rowLine}
+use Rattle.quarter_sample.proofs.Buffers.{rows-step, line-taps, taps-fit}
 use Rattle.quarter_sample.proofs.passes.filter_row.Statement.{statement}
 use Rattle.quarter_sample.proofs.passes.filter_row.Tie as tie
 
@@ -51,32 +51,56 @@ part-requires-7 c κs = search needs
 part-requires-8 : tie.Need-part-requires-8
 part-requires-8 c κs = search needs
 
+-- the call, and the extended row, as the first part of it is cut out
+abbrev start : tie.After-part → tie.Start
+start c = c .before .before .before .before .before .before .before .before .before .before
+
+abbrev extend : tie.After-part → tie.After-extend-row
+extend c = c .before .before .before .before
+
 filter-taps-requires : tie.Need-filter-taps-requires
 filter-taps-requires c κs =
-    ((c .before .before .before .before .before .before .before .before .before .before .before .before .before .before .before .before .before .before .pre .3, c .before .before .before .before .before .before .before .before .before .before .before .before .before .before .before .before .before .before .pre .4), (ap length (c .before .before .before .before .before .before .before .before .part .ensures) ∙ length-tabulate _ _, ap length (c .before .before .before .before .before .before .before .part2 .ensures) ∙ length-tabulate _ _, ap length (c .before .before .before .before .before .before .part3 .ensures) ∙ length-tabulate _ _, ap length (c .before .before .before .before .before .part4 .ensures) ∙ length-tabulate _ _, ap length (c .before .before .before .before .part5 .ensures) ∙ length-tabulate _ _, ap length (c .before .before .before .part6 .ensures) ∙ length-tabulate _ _, ap length (c .before .before .part7 .ensures) ∙ length-tabulate _ _, ap length (c .before .part8 .ensures) ∙ length-tabulate _ _))
+    let c8 = c .before in
+    let c7 = c8 .before in
+    let c6 = c7 .before in
+    let c5 = c6 .before in
+    let c4 = c5 .before in
+    let c3 = c4 .before in
+    let c2 = c3 .before in
+    let c1 = c2 .before in
+    let s = start c1 in (
+      (s .pre .fraction-small, s .pre .rc-small),
+      taps-fit _ _ _ _ _ _ _ _ _ _ _ _ _ _ _ _ _ (c1 .part .ensures) (c2 .part2 .ensures) (c3 .part3 .ensures) (c4 .part4 .ensures)
+          (c5 .part5 .ensures) (c6 .part6 .ensures) (c7 .part7 .ensures) (c8 .part8 .ensures),
+    )
 
 same-length : tie.Need-same-length
-same-length c = ap length (c .before .before .before .before .before .before .before .before .before .before .before .before .before .before .before .extend-row .ensures) ∙ length-tabulate _ _
+same-length c =
+    let c1 = c .before .before .before .before .before .before .before .before .before .before .before in
+    ap length (extend c1 .extend-row .ensures) ∙ length-tabulate _ _
 
 same-length-2 : tie.Need-same-length-2
 same-length-2 c = search needs
 
 returns : tie.Need-returns
 returns c =
-    let a = c .before .before .before .before .before .before .before .before .before .before .before .before .before .before .before .before .before .before .before .before .before .args in
+    let c8 = c .before .before .before .before in
+    let c7 = c8 .before in
+    let c6 = c7 .before in
+    let c5 = c6 .before in
+    let c4 = c5 .before in
+    let c3 = c4 .before in
+    let c2 = c3 .before in
+    let c1 = c2 .before in
+    let s = start c1 in
+    let a = s .args in
     let w = length (a .out .now) in
-    let pre = c .before .before .before .before .before .before .before .before .before .before .before .before .before .before .before .before .before .before .before .before .before .pre in
-    let taps = line-taps (a .block .now) _ (a .n) (a .j) _ (omega arith) (omega arith) (omega arith) (c .before .before .before .before .before .before .before .before .before .before .before .before .before .before .before .extend-row .ensures) w in
+    let taps = line-taps (a .block .now) _ (a .n) (a .j) _ (s .pre .n-low) (s .pre .inside) (s .pre .line-fits) (extend c1 .extend-row .ensures) w in
     c .before .before .filter-taps .ensures
-    ∙ rows-step (a .rc) (a .max) (a .fraction) w (λ i. rowLine (a .block .now) (a .n) (a .j)) (λ i. i) _ _ _ _ _ _ _ _
-    (c .before .before .before .before .before .before .before .before .before .before .before .part .ensures ∙ taps 0 (omega arith))
-    (c .before .before .before .before .before .before .before .before .before .before .part2 .ensures ∙ taps 1 (omega arith))
-    (c .before .before .before .before .before .before .before .before .before .part3 .ensures ∙ taps 2 (omega arith))
-    (c .before .before .before .before .before .before .before .before .part4 .ensures ∙ taps 3 (omega arith))
-    (c .before .before .before .before .before .before .before .part5 .ensures ∙ taps 4 (omega arith))
-    (c .before .before .before .before .before .before .part6 .ensures ∙ taps 5 (omega arith))
-    (c .before .before .before .before .before .part7 .ensures ∙ taps 6 (omega arith))
-    (c .before .before .before .before .part8 .ensures ∙ taps 7 (omega arith))
+    ∙ rows-step (a .wanted .rc) (a .wanted .max) (a .fraction) w (λ i. rowLine (a .block .now) (a .n) (a .j)) (λ i. i) _ _ _ _ _ _ _ _
+    (c1 .part .ensures ∙ taps 0 (omega arith)) (c2 .part2 .ensures ∙ taps 1 (omega arith)) (c3 .part3 .ensures ∙ taps 2 (omega arith))
+    (c4 .part4 .ensures ∙ taps 3 (omega arith)) (c5 .part5 .ensures ∙ taps 4 (omega arith)) (c6 .part6 .ensures ∙ taps 5 (omega arith))
+    (c7 .part7 .ensures ∙ taps 6 (omega arith)) (c8 .part8 .ensures ∙ taps 7 (omega arith))
 
 pub filter-row-spec : {M : Type 1} → statement M
 filter-row-spec =

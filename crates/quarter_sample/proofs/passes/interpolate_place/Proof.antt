@@ -1,24 +1,39 @@
 -- `interpolate_place` meets its contract: each arm is its place's rule. Assumes nothing.
-use Prim.Native.Nat.{ℕ, zero-le, _+_, _*_, _<_}
-use native.Mathlib.Nat.{le-antisymm}
-use native.Mathlib.Omega.{arith}
+use Prim.Native.Nat.{ℕ, _+_, _*_, _<_}
 use mathlib.Core.List.{List}
 use mathlib.Core.Path.{_≡_, _∙_}
 use lib.Dec.{lit<}
 use borrow.Author.Needs.{needs}
-use Rattle.basis.specs.Lists.{raster}
-use Rattle.basis.proofs.Small.{after}
-use Rattle.quarter_sample.specs.Places.{place}
-use Rattle.quarter_sample.specs.Passes.{stepBoth, held}
-use Rattle.quarter_sample.proofs.Blocks.{placed, whole, across, down}
+use Rattle.quarter_sample.specs.declared.Wanted.{Wanted}
+use Rattle.quarter_sample.specs.ToldPasses.{rowsAt, columnsAt, wholeAt, bothAt, placeAt, blockSource}
+use Rattle.quarter_sample.proofs.Sixteen.{last-place}
+use Rattle.quarter_sample.proofs.Blocks.{place-by-steps, whole, across, down}
 use Rattle.quarter_sample.proofs.passes.interpolate_place.Statement.{statement}
 use Rattle.quarter_sample.proofs.passes.interpolate_place.Tie as tie
 
 -- two steps at the fractions of an arm are its place
-rule : (s : tie.Start) (fx fy : ℕ) {out : List ℕ} → fx < 4 → fy < 4 → let a = s .args in let block = held (a .block .now) (a .w + 1) (a .h + 1) in a .fractions ≡ fx + 4 * fy → out ≡ raster (a .w) (a .h) (stepBoth (a .rc) (a .max) fx fy block) → out ≡ raster (a .w) (a .h) (place (a .rc) (a .max) block (a .fractions))
+rule : (s : tie.Start) (fx fy : ℕ) {out : List ℕ} → fx < 4 → fy < 4 → let a = s .args in
+    a .fractions ≡ fx + 4 * fy → out ≡ bothAt (a .wanted) fx fy (a .block .now) → out ≡ placeAt (a .wanted) (a .fractions) (a .block .now)
 rule s fx fy {out} p q e o =
     let a = s .args in
-    placed (a .rc) (a .max) (a .w) (a .h) fx fy (a .fractions) (held (a .block .now) (a .w + 1) (a .h + 1)) out p q e o
+    place-by-steps (a .wanted .rc) (a .wanted .max) (a .wanted .width) (a .wanted .height) fx fy (a .fractions) (blockSource (a .wanted) (a .block .now)) out p q e o
+
+-- one pass alone, and the copy, are two steps of which one or both stay
+module _ (s : tie.Start) where
+  abbrev block : List ℕ
+  block = s .args .block .now
+
+  abbrev wanted : Wanted
+  wanted = s .args .wanted
+
+  whole-is : wholeAt wanted block ≡ bothAt wanted 0 0 block
+  whole-is = whole (wanted .rc) (wanted .max) (wanted .width) (wanted .height) block
+
+  across-is : (fx : ℕ) → rowsAt wanted fx block ≡ bothAt wanted fx 0 block
+  across-is = across (wanted .rc) (wanted .max) (wanted .width) (wanted .height) block
+
+  down-is : (fy : ℕ) → columnsAt wanted fy block (wanted .width + 1) ≡ bothAt wanted 0 fy block
+  down-is = down (wanted .rc) (wanted .max) (wanted .width) (wanted .height) block
 
 copy-rows-requires : tie.Need-copy-rows-requires
 copy-rows-requires c κs = search needs
@@ -83,7 +98,7 @@ same-length c = search needs
 returns : tie.Need-returns
 returns c =
     let s = c .before .before .before .before .before .before .before in
-    rule s 0 0 (lit< tt) (lit< tt) (c .before .before .before .before .match .keys1) (c .before .before .copy-rows .ensures ∙ whole (s .args .rc) (s .args .max) (s .args .w) (s .args .h) (s .args .block .now))
+    rule s 0 0 (lit< tt) (lit< tt) (c .before .before .before .before .match .keys1) (c .before .before .copy-rows .ensures ∙ whole-is s)
 
 same-length-2 : tie.Need-same-length-2
 same-length-2 c = search needs
@@ -91,7 +106,7 @@ same-length-2 c = search needs
 returns-2 : tie.Need-returns-2
 returns-2 c =
     let s = c .before .before .before .before .before .before .before in
-    rule s 1 0 (lit< tt) (lit< tt) (c .before .before .before .before .match .keys2) (c .before .before .row-pass .ensures ∙ across (s .args .rc) (s .args .max) (s .args .w) (s .args .h) (s .args .block .now) 1)
+    rule s 1 0 (lit< tt) (lit< tt) (c .before .before .before .before .match .keys2) (c .before .before .row-pass .ensures ∙ across-is s 1)
 
 same-length-3 : tie.Need-same-length-3
 same-length-3 c = search needs
@@ -99,7 +114,7 @@ same-length-3 c = search needs
 returns-3 : tie.Need-returns-3
 returns-3 c =
     let s = c .before .before .before .before .before .before .before in
-    rule s 2 0 (lit< tt) (lit< tt) (c .before .before .before .before .match .keys3) (c .before .before .row-pass2 .ensures ∙ across (s .args .rc) (s .args .max) (s .args .w) (s .args .h) (s .args .block .now) 2)
+    rule s 2 0 (lit< tt) (lit< tt) (c .before .before .before .before .match .keys3) (c .before .before .row-pass2 .ensures ∙ across-is s 2)
 
 same-length-4 : tie.Need-same-length-4
 same-length-4 c = search needs
@@ -107,15 +122,15 @@ same-length-4 c = search needs
 returns-4 : tie.Need-returns-4
 returns-4 c =
     let s = c .before .before .before .before .before .before .before in
-    rule s 3 0 (lit< tt) (lit< tt) (c .before .before .before .before .match .keys4) (c .before .before .row-pass3 .ensures ∙ across (s .args .rc) (s .args .max) (s .args .w) (s .args .h) (s .args .block .now) 3)
+    rule s 3 0 (lit< tt) (lit< tt) (c .before .before .before .before .match .keys4) (c .before .before .row-pass3 .ensures ∙ across-is s 3)
 
 same-length-5 : tie.Need-same-length-5
 same-length-5 c = search needs
 
 returns-5 : tie.Need-returns-5
 returns-5 c =
-    let s = c .before .before .before .before .before .before .before in
-    rule s 0 1 (lit< tt) (lit< tt) (c .before .before .before .before .match .keys5) (c .before .before .column-pass .ensures ∙ down (s .args .rc) (s .args .max) (s .args .w) (s .args .h) (s .args .block .now) 1)
+    let s = c .before .before .before .before .before .before .before .before in
+    rule s 0 1 (lit< tt) (lit< tt) (c .before .before .before .before .before .match .keys5) (c .before .before .column-pass .ensures ∙ down-is s 1)
 
 same-length-6 : tie.Need-same-length-6
 same-length-6 c = search needs
@@ -146,8 +161,8 @@ same-length-9 c = search needs
 
 returns-9 : tie.Need-returns-9
 returns-9 c =
-    let s = c .before .before .before .before .before .before .before in
-    rule s 0 2 (lit< tt) (lit< tt) (c .before .before .before .before .match .keys9) (c .before .before .column-pass2 .ensures ∙ down (s .args .rc) (s .args .max) (s .args .w) (s .args .h) (s .args .block .now) 2)
+    let s = c .before .before .before .before .before .before .before .before in
+    rule s 0 2 (lit< tt) (lit< tt) (c .before .before .before .before .before .match .keys9) (c .before .before .column-pass2 .ensures ∙ down-is s 2)
 
 same-length-10 : tie.Need-same-length-10
 same-length-10 c = search needs
@@ -178,8 +193,8 @@ same-length-13 c = search needs
 
 returns-13 : tie.Need-returns-13
 returns-13 c =
-    let s = c .before .before .before .before .before .before .before in
-    rule s 0 3 (lit< tt) (lit< tt) (c .before .before .before .before .match .keys13) (c .before .before .column-pass3 .ensures ∙ down (s .args .rc) (s .args .max) (s .args .w) (s .args .h) (s .args .block .now) 3)
+    let s = c .before .before .before .before .before .before .before .before in
+    rule s 0 3 (lit< tt) (lit< tt) (c .before .before .before .before .before .match .keys13) (c .before .before .column-pass3 .ensures ∙ down-is s 3)
 
 same-length-14 : tie.Need-same-length-14
 same-length-14 c = search needs
@@ -203,9 +218,8 @@ same-length-16 c = search needs
 returns-16 : tie.Need-returns-16
 returns-16 c =
     let s = c .before .before .before .before .before .before .before in
-    let r = c .before .before .before .before .match .rest in
-    let e : s .args .fractions ≡ 15 = le-antisymm (omega arith) (after 14 (after 13 (after 12 (after 11 (after 10 (after 9 (after 8 (after 7 (after 6 (after 5 (after 4 (after 3 (after 2 (after 1 (after 0 zero-le (r .0 .0 .0 .0 .0 .0 .0 .0 .0 .0 .0 .0 .0 .0 .1)) (r .0 .0 .0 .0 .0 .0 .0 .0 .0 .0 .0 .0 .0 .1)) (r .0 .0 .0 .0 .0 .0 .0 .0 .0 .0 .0 .0 .1)) (r .0 .0 .0 .0 .0 .0 .0 .0 .0 .0 .0 .1)) (r .0 .0 .0 .0 .0 .0 .0 .0 .0 .0 .1)) (r .0 .0 .0 .0 .0 .0 .0 .0 .0 .1)) (r .0 .0 .0 .0 .0 .0 .0 .0 .1)) (r .0 .0 .0 .0 .0 .0 .0 .1)) (r .0 .0 .0 .0 .0 .0 .1)) (r .0 .0 .0 .0 .0 .1)) (r .0 .0 .0 .0 .1)) (r .0 .0 .0 .1)) (r .0 .0 .1)) (r .0 .1)) (r .1)) in
-    rule s 3 3 (lit< tt) (lit< tt) (e) (c .before .before .both-passes9 .ensures)
+    let e = last-place (s .args .fractions) (s .pre .1) (c .before .before .before .before .match .rest) in
+    rule s 3 3 (lit< tt) (lit< tt) e (c .before .before .both-passes9 .ensures)
 
 pub interpolate-place-spec : {M : Type 1} → statement M
 interpolate-place-spec =

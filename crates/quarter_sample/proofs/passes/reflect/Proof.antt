@@ -4,7 +4,7 @@ use native.Mathlib.Omega.{arith}
 use mathlib.Core.Path.{_≡_, refl, sym, ap}
 use lib.ListN.{length, getD, length-set}
 use Rattle.basis.proofs.Lists.{filled, filled-none, filled-set, filled-end}
-use Rattle.quarter_sample.specs.Passes.{reflected}
+use Rattle.quarter_sample.specs.ToldPasses.{reflected}
 use Rattle.quarter_sample.proofs.Reflection.{mirror-below}
 use Rattle.quarter_sample.proofs.passes.reflect.Statement.{statement}
 use Rattle.quarter_sample.proofs.passes.reflect.Tie as tie
@@ -28,7 +28,8 @@ mirror-index-requires c κs = omega arith
 shared-slice-read-out : tie.Need-shared-slice-read-out Inv-loop μ-loop
 shared-slice-read-out c =
     let a = c .before .before .before .before .before .before .args in
-    omega (arith, c .before .mirror-index .ensures, mirror-below (length (a .row .now)) (a .first + c .before .before .before .loop .k) (omega arith) (omega arith))
+    let u = a .first + c .before .before .before .loop .k in
+    omega (arith, c .before .mirror-index .ensures, mirror-below (length (a .row .now)) u (omega arith) (omega arith))
 
 slice-write-out : tie.Need-slice-write-out Inv-loop μ-loop
 slice-write-out c = omega arith
@@ -41,7 +42,13 @@ loop-less c = omega arith
 
 loop-again : tie.Need-loop-again Inv-loop μ-loop
 loop-again c =
-    (omega arith, omega arith, simp length-set (omega arith), filled-set _ _ _ _ _ (c .before .before .before .loop .inv .3) (ap (λ (k : ℕ). getD (c .before .before .before .before .before .before .args .row .now) k 0) (c .before .mirror-index .ensures)) (omega arith))
+    let l = c .before .before .before in
+    let a = l .before .before .before .args in (
+      omega arith,
+      omega arith,
+      simp length-set (omega arith),
+      filled-set _ _ _ _ _ (l .loop .inv .3) (ap (λ (k : ℕ). getD (a .row .now) k 0) (c .before .mirror-index .ensures)) (omega arith),
+    )
 
 same-length : tie.Need-same-length Inv-loop μ-loop
 same-length c = omega arith

@@ -6,13 +6,13 @@ use lib.ListN.{length, getD}
 use borrow.Author.Needs.{needs}
 use Rattle.basis.proofs.Bounds.{row-before}
 use Rattle.basis.proofs.Slices.{part-tabulate}
-use Rattle.quarter_sample.specs.Passes.{columnLine}
+use Rattle.quarter_sample.specs.ToldPasses.{columnLine}
 use Rattle.quarter_sample.proofs.Reflection.{mirror-below}
 use Rattle.quarter_sample.proofs.passes.tap_row.Statement.{statement}
 use Rattle.quarter_sample.proofs.passes.tap_row.Tie as tie
 
 -- the reflected row lies within the buffer
-inside : (c : tie.After-mirror-index) → c .mirror-index .result * c .before .before .args .stride + c .before .before .args .w ≤ length (c .before .before .args .src .now)
+inside : (c : tie.After-mirror-index) → let a = c .before .before .args in c .mirror-index .result * a .stride + a .w ≤ length (a .src .now)
 inside c =
     let a = c .before .before .args in
     let b : c .mirror-index .result < a .size = omega (arith, c .mirror-index .ensures, mirror-below (a .size) (a .u) (omega arith) (omega arith)) in
@@ -40,7 +40,8 @@ returns : tie.Need-returns
 unfolding columnLine
 returns c =
     let a = c .before .before .before .args in
-    part-tabulate (a .src .now) _ (a .w) _ 0 (inside (c .before)) (λ i p. ap (λ (m : ℕ). getD (a .src .now) (m * a .stride + i) 0) (c .before .mirror-index .ensures))
+    part-tabulate (a .src .now) _ (a .w) _ 0 (inside (c .before))
+    (λ i p. ap (λ (m : ℕ). getD (a .src .now) (m * a .stride + i) 0) (c .before .mirror-index .ensures))
 
 pub tap-row-spec : {M : Type 1} → statement M
 tap-row-spec =

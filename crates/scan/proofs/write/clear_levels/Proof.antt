@@ -34,7 +34,8 @@ loop-less c = search needs
 loop-again : tie.Need-loop-again Inv-loop μ-loop
 loop-again c =
     let l = c .before .loop in
-    (search needs, search needs, search needs, filled-set (l .i) (λ _. (pos 0)) (c .before .before .args .levels .now) (l .levels) (pos 0) (l .inv .3) refl (omega arith))
+    let before = c .before .before .args .levels .now in
+    (search needs, search needs, search needs, filled-set (l .i) (λ _. (pos 0)) before (l .levels) (pos 0) (l .inv .3) refl (omega arith))
 
 same-length : tie.Need-same-length Inv-loop μ-loop
 same-length c = search needs

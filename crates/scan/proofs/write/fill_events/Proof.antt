@@ -11,22 +11,27 @@ use Rattle.scan.proofs.write.fill_events.Tie as tie
 count-most : (c : tie.After-write-events) → c .write-events .result ≤ 64
 count-most c =
     let s = c .before .before .before .before .before .before .before .before .before .before .before .before .before .before .before .before in
-    omega (arith, c .write-events .ensures .0, events-length 0 (s .args .levels .now), s .pre .0)
+    omega (arith, c .write-events .ensures .0, events-length 0 (s .args .levels .now), s .pre .levels-long)
 
 clear-bytes-requires : tie.Need-clear-bytes-requires
-clear-bytes-requires c κs = search needs
+clear-bytes-requires c κs = c .before .before .before .pre .lasts-long
 
 clear-bytes-requires-2 : tie.Need-clear-bytes-requires-2
-clear-bytes-requires-2 c κs = search needs
+clear-bytes-requires-2 c κs = c .before .before .before .before .before .before .before .pre .runs-long
 
 clear-levels-requires : tie.Need-clear-levels-requires
-clear-levels-requires c κs = search needs
+clear-levels-requires c κs = c .before .before .before .before .before .before .before .before .before .before .before .pre .values-long
 
 write-events-requires : tie.Need-write-events-requires
-write-events-requires c κs = search needs
+write-events-requires c κs =
+    let l = c .before .before .before in
+    let r = l .before .before .before .before in
+    (r .before .before .before .before .before .before .before .before .pre .levels-long, (r .clear-bytes2 .ensures, l .clear-levels .ensures))
 
 mark-last-requires : tie.Need-mark-last-requires
-mark-last-requires c κs = (c .before .before .before .before .before .before .before .before .before .before .before .before .before .before .before .before .clear-bytes .ensures, count-most (c .before .before .before .before))
+mark-last-requires c κs =
+    let w = c .before .before .before .before in
+    (w .before .before .before .before .before .before .before .before .before .before .before .before .clear-bytes .ensures, count-most w)
 
 cast-result : tie.Need-cast-result
 cast-result c = record { fits = omega (arith, count-most (c .before .before .before .before .before .before .before)) }

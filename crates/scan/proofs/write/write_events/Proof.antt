@@ -10,12 +10,12 @@ use lib.ListN.{length, getD, set, length-set}
 use lib.Seq.{set-out}
 use Rattle.basis.proofs.Signed.{of-bits}
 use Rattle.scan.specs.Event.{isZero}
-use Rattle.scan.proofs.Writing.{Written, started, turn, run-room, runs-length, values-length, finished}
+use Rattle.scan.proofs.Writing.{WrittenSoFar, started, turn, run-room, runs-length, values-length, finished}
 use Rattle.scan.proofs.write.write_events.Statement.{statement}
 use Rattle.scan.proofs.write.write_events.Tie as tie
 
 abbrev Inv-loop : tie.InvT-loop
-Inv-loop levels runs₀ out-levels₀ count₀ run₀ i₀ runs out-levels count run i = Written levels (set runs count 0) out-levels count run i
+Inv-loop levels runs₀ out-levels₀ count₀ run₀ i₀ runs out-levels count run i = WrittenSoFar levels (set runs count 0) out-levels count run i
 
 abbrev μ-loop : tie.MeasureT-loop
 μ-loop levels runs₀ out-levels₀ count₀ run₀ i₀ runs out-levels count run i = 64 - i
@@ -69,7 +69,7 @@ loop-again c =
     let more = c .before .one-unless-zero .ensures .0 ∙ ap (λ (z : ℤ). cond (isZero z) 0 1) read in
     let run = c .run-after .ensures ∙ ap (λ (z : ℤ). cond (isZero z) (at .run + 1) 0) read in
     let left : ℕ → ℕ → ℤ → Type 0 = λ n r v.
-    Written (s .args .levels .now) (set (set (at .runs) (at .count) (at .run)) (at .count + n) 0) (set (at .out-levels) (at .count) v) (at .count + n) r (at .i + 1) in
+    WrittenSoFar (s .args .levels .now) (set (set (at .runs) (at .count) (at .run)) (at .count + n) 0) (set (at .out-levels) (at .count) v) (at .count + n) r (at .i + 1) in
     let told = turn (s .args .levels .now) (at .runs) (at .out-levels) (at .count) (at .run) (at .i) (s .pre .0) (x .before .loop-test .taken) (at .inv) in
     let n = c .before .one-unless-zero .result in
     let r = c .run-after .result in

@@ -3,8 +3,8 @@ use mathlib.Core.Path.{_∙_}
 use mir.Syntax.{w32}
 use mir.Facts.{toZ-ofZ}
 use borrow.Author.Needs.{sfits-of, needs}
+use Rattle.basis.specs.Cut.{cutTo}
 use Rattle.basis.proofs.Signed.{of-bits}
-use Rattle.search.specs.Range.{clampZ}
 use Rattle.search.proofs.Ends.{low-fits, high-fits, between-ends}
 use Rattle.search.proofs.range.clamped.Statement.{statement}
 use Rattle.search.proofs.range.clamped.Tie as tie
@@ -41,8 +41,10 @@ returns c =
     let f = n .before .args .fcode in
     let k = n .range .result in
     let p = n .range .ensures in
-    let x = toZ-ofZ (sfits-of {w = w32} (a .clamp .ok)) ∙ between-ends f k (p .0) (p .1) (p .2) clampZ (v .x) (of-bits (v .x) (a .before .struct-told .given .0 .1)) (a .clamp .ensures) in
-    let y = toZ-ofZ (sfits-of {w = w32} (c .clamp2 .ok)) ∙ between-ends f k (p .0) (p .1) (p .2) clampZ (v .y) (of-bits (v .y) (c .before .struct-told2 .given .1 .0 .1)) (c .clamp2 .ensures) in
+    let g = of-bits (v .x) (a .before .struct-told .given .0 .1) in
+    let h = of-bits (v .y) (c .before .struct-told2 .given .1 .0 .1) in
+    let x = toZ-ofZ (sfits-of {w = w32} (a .clamp .ok)) ∙ between-ends f k (p .0) (p .1) (p .2) cutTo (v .x) g (a .clamp .ensures) in
+    let y = toZ-ofZ (sfits-of {w = w32} (c .clamp2 .ok)) ∙ between-ends f k (p .0) (p .1) (p .2) cutTo (v .y) h (c .clamp2 .ensures) in
     λ i. record { x = x i; y = y i }
 
 pub clamped-spec : {M : Type 1} → statement M

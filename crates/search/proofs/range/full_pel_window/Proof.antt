@@ -9,6 +9,7 @@ use Rattle.basis.proofs.Case.{then, else}
 use Rattle.prediction.specs.declared.BVopSampleMode.{BVopSampleMode}
 use Rattle.prediction.specs.declared.BVopSampleMode.the-variants.{HalfPel, QuarterPel}
 use Rattle.prediction.specs.Luma.{unitsPerPel}
+use Rattle.search.specs.declared.SearchSettings.{SearchSettings}
 use Rattle.search.specs.Range.{range, window}
 use Rattle.search.proofs.range.full_pel_window.Statement.{statement}
 use Rattle.search.proofs.range.full_pel_window.Tie as tie
@@ -27,23 +28,26 @@ small q h = omega arith
 large : (q : ℕ) → 8 ≤ q - 1 → q - 1 ≡ max (q - 1) 8
 large q h = omega arith
 
+abbrev settingsAt : tie.After-units-per-pel → SearchSettings
+settingsAt c = c .before .before .before .args .settings
+
 -- what the code divides
-divided : (c : tie.After-units-per-pel) → c .before .range .result / c .units-per-pel .result ≡ range (c .before .before .before .args .fcode) / unitsPerPel (c .before .before .before .args .mode)
+divided : (c : tie.After-units-per-pel) → c .before .range .result / c .units-per-pel .result ≡ range (settingsAt c .fcode) / unitsPerPel (settingsAt c .mode)
 divided c = ap₂ (λ (n u : ℕ). n / u) (c .before .range .ensures .0) (c .units-per-pel .ensures)
 
 -- beyond fcode 1
-wide : (c : tie.After-units-per-pel) → max (c .before .range .result / c .units-per-pel .result - 1) 8 ≡ window (c .before .before .before .args .mode) (c .before .before .before .args .fcode)
+wide : (c : tie.After-units-per-pel) → max (c .before .range .result / c .units-per-pel .result - 1) 8 ≡ window (settingsAt c)
 unfolding window
 wide c =
     let d = c .before .before in
-    let a = d .before .args in
+    let a = settingsAt c in
     let w = range (a .fcode) / unitsPerPel (a .mode) in
     ap (λ (q : ℕ). max (q - 1) 8) (divided c) ∙ sym (else (eqb (a .fcode) 1) 8 (max (w - 1) 8) (ne-eqb (a .fcode) 1 (d .if1 .left)))
 
 returns : tie.Need-returns
 unfolding window
 returns c =
-    let a = c .before .args in
+    let a = c .before .args .settings in
     sym (then (eqb (a .fcode) 1) 8 (max (range (a .fcode) / unitsPerPel (a .mode) - 1) 8) (eq-eqb (a .fcode) 1 (c .if1 .taken)))
 
 range-requires : tie.Need-range-requires
@@ -53,10 +57,10 @@ units-per-pel-requires : tie.Need-units-per-pel-requires
 units-per-pel-requires c κs = search needs
 
 div-w : tie.Need-div-w
-div-w c = rw (c .units-per-pel .ensures) (units (c .before .before .before .args .mode))
+div-w c = rw (c .units-per-pel .ensures) (units (settingsAt c .mode))
 
 sub-w : tie.Need-sub-w
-sub-w c = rw (c .units-per-pel .ensures) (quotient (c .before .before .before .args .mode) (c .before .range .result) (c .before .range .ensures .1))
+sub-w c = rw (c .units-per-pel .ensures) (quotient (settingsAt c .mode) (c .before .range .result) (c .before .range .ensures .1))
 
 returns-2 : tie.Need-returns-2
 returns-2 c = small (c .before .before .range .result / c .before .units-per-pel .result) (c .if2 .taken) ∙ wide (c .before)

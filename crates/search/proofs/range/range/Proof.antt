@@ -45,7 +45,10 @@ returns-6 c =
 returns-7 : tie.Need-returns-7
 unfolding range
 returns-7 c =
-    let e : c .before .args .fcode ≡ 7 = omega (arith, between-low 1 7 (c .before .args .fcode) (c .before .pre), between-high 1 7 (c .before .args .fcode) (c .before .pre)) in
+    let s = c .before in
+    let least = between-low 1 7 (s .args .fcode) (s .pre) in
+    let most = between-high 1 7 (s .args .fcode) (s .pre) in
+    let e : s .args .fcode ≡ 7 = omega (arith, least, most) in
     (sym (ap range e), omega arith, omega arith)
 
 pub range-spec : {M : Type 1} → statement M

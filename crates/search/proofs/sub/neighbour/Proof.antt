@@ -28,8 +28,10 @@ returns c =
     let v = s .args .c in
     let t = s .args .step in
     let n = s .args .n in
-    let x = toZ-ofZ (sfits-of {w = w32} (a .stepped .ok)) ∙ a .stepped .ensures ∙ ap (λ (z : ℤ). stepped z t (n % 3)) (of-bits (v .x) (a .before .struct-told .given .0 .1)) in
-    let y = toZ-ofZ (sfits-of {w = w32} (b .stepped2 .ok)) ∙ b .stepped2 .ensures ∙ ap (λ (z : ℤ). stepped z t (n / 3)) (of-bits (v .y) (b .before .struct-told2 .given .1 .0 .1)) in
+    let p = of-bits (v .x) (a .before .struct-told .given .0 .1) in
+    let q = of-bits (v .y) (b .before .struct-told2 .given .1 .0 .1) in
+    let x = toZ-ofZ (sfits-of {w = w32} (a .stepped .ok)) ∙ a .stepped .ensures ∙ ap (λ (z : ℤ). stepped z t (n % 3)) p in
+    let y = toZ-ofZ (sfits-of {w = w32} (b .stepped2 .ok)) ∙ b .stepped2 .ensures ∙ ap (λ (z : ℤ). stepped z t (n / 3)) q in
     c .clamped .ensures ∙ ap (clamped (s .args .fcode)) (λ i. record { x = x i; y = y i })
 
 pub neighbour-spec : {M : Type 1} → statement M

@@ -2,66 +2,68 @@
 use Prim.Native.Nat.{ℕ, _/_}
 use native.Mathlib.Omega.{arith}
 use mathlib.Core.Bool.{true}
-use mathlib.Core.List.{foldl}
-use mathlib.Core.Path.{_≡_, sym, ap, _∙_}
+use mathlib.Core.List.{List, foldl}
+use mathlib.Core.Path.{_≡_, ap, _∙_}
 use Rattle.record.specs.declared.MotionVector.{MotionVector}
-use Rattle.plane.specs.Plane.{planeOf}
 use Rattle.plane.specs.Reference.{vectorInRange}
-use Rattle.prediction.specs.declared.BVopSampleMode.{BVopSampleMode}
-use Rattle.prediction.specs.Luma.{unitsPerPel, wholeVector}
-use Rattle.search.specs.declared.Scored.{Scored}
+use Rattle.prediction.specs.Luma.{unitsPerPel}
+use Rattle.full_search.specs.declared.Scored.{Scored}
+use Rattle.full_search.specs.Block.{blockOf}
+use Rattle.full_search.specs.Costs.{scored, consider, atCost}
 use Rattle.search.specs.Range.{vectorIn}
 use Rattle.search.specs.Sums.{vectorSum}
-use Rattle.search.specs.Sub.{scored, ring, start, refined}
-use Rattle.search.specs.Kept.{consider, atCost}
-use Rattle.search.specs.Told.{blockOf}
-use Rattle.search.proofs.InRange.{clamped-in, in-interpolation}
-use Rattle.search.proofs.Refined.{refine-half, refine-quarter, ring-best-in}
+use Rattle.search.specs.Sub.{ring, start}
+use Rattle.search.proofs.InRange.{in-interpolation}
+use Rattle.search.proofs.Refined.{halfKept, refine-half, refine-quarter, ring-best-in, start-in}
 use borrow.Author.Needs.{needs}
 use Rattle.search.proofs.sub.refine_subpel.Statement.{statement}
 use Rattle.search.proofs.sub.refine_subpel.Tie as tie
 
 module _ (s : tie.Start) where
   abbrev sumOf : MotionVector → ℕ
-  sumOf = let a = s .args in vectorSum (a .mode) (blockOf (a .side) (a .source .now) (planeOf (a .reference .now) (a .geometry)) (a .x) (a .y))
+  sumOf = let a = s .args in vectorSum (a .settings) (blockOf (a .source .now) (a .reference .now) (a .target))
 
-  abbrev begun : BVopSampleMode → MotionVector
-  begun m = start m (s .args .fcode) (s .args .d)
+  -- where it begins
+  abbrev begun : MotionVector
+  begun = start (s .args .settings) (s .args .winner .vector)
 
-  begun-in : vectorIn (s .args .fcode) (begun (s .args .mode)) ≡ true
-  begun-in = let d = s .args .d in clamped-in (s .args .fcode) (wholeVector (s .args .mode) (d .x) (d .y))
+  begun-in : vectorIn (s .args .settings .fcode) begun ≡ true
+  begun-in = start-in sumOf (s .args .settings) (s .args .winner .vector)
 
-  -- what the half ring keeps in a mode
-  abbrev halfIn : BVopSampleMode → Scored
-  halfIn m = foldl (consider sumOf) (atCost sumOf (begun m)) (ring (s .args .fcode) (unitsPerPel m / 2) (begun m))
+  -- the half ring around a vector
+  abbrev around : MotionVector → List MotionVector
+  around v = let t = s .args .settings in ring (t .fcode) (unitsPerPel (t .mode) / 2) v
 
-  abbrev refinedIn : BVopSampleMode → Scored
-  refinedIn m = refined sumOf m (s .args .fcode) (s .args .d)
+abbrev startAt : tie.After-half-ring → tie.Start
+startAt c = c .before .before .before .before .before .before
 
-half-is : (c : tie.After-half-ring) → let s = c .before .before .before .before .before in c .half-ring .result ≡ halfIn s (s .args .mode)
+half-is : (c : tie.After-half-ring) → let s = startAt c in c .half-ring .result ≡ halfKept (sumOf s) (s .args .settings) (s .args .winner .vector)
 half-is c =
     let n = c .before in
     let b = n .before in
-    let s = b .before .before .before in
+    let s = startAt c in
     let v = b .start .result in
-    let around = ring (s .args .fcode) (unitsPerPel (s .args .mode) / 2) in
-    c .half-ring .ensures ∙ ap (λ (k : ℕ). foldl (consider (sumOf s)) (scored v k) (around v)) (n .vector-sum .ensures)
-    ∙ ap (λ (w : MotionVector). foldl (consider (sumOf s)) (atCost (sumOf s) w) (around w)) (b .start .ensures)
+    c .half-ring .ensures ∙ ap (λ (k : ℕ). foldl (consider (sumOf s)) (scored v k) (around s v)) (n .vector-sum .ensures)
+    ∙ ap (λ (w : MotionVector). foldl (consider (sumOf s)) (atCost (sumOf s) w) (around s w)) (b .start .ensures)
 
 start-requires : tie.Need-start-requires
 start-requires c κs = search needs
 
 vector-sum-requires : tie.Need-vector-sum-requires
 vector-sum-requires c κs =
-    let s = c .before .before .before in
-    let a = s .args in
-    (s .pre .0, s .pre .1 .mode, ap vectorInRange (c .start .ensures) ∙ in-interpolation (a .fcode) (begun s (a .mode)) (s .pre .1 .range-is) (begun-in s))
+    let s = c .before .before .before .before in
+    let t = s .args .settings in
+    record {
+      ready = s .pre .0;
+      mode-usable = s .pre .1 .mode-usable;
+      vector-in = ap vectorInRange (c .start .ensures) ∙ in-interpolation (t .fcode) (begun s) (s .pre .1 .fcode-usable) (begun-in s);
+    }
 
 half-ring-requires : tie.Need-half-ring-requires
 half-ring-requires c κs =
     let b = c .before in
-    let s = b .before .before .before in
-    (s .pre .0, s .pre .1, ap (vectorIn (s .args .fcode)) (b .start .ensures) ∙ begun-in s)
+    let s = b .before .before .before .before in
+    (s .pre .0, s .pre .1, ap (vectorIn (s .args .settings .fcode)) (b .start .ensures) ∙ begun-in s)
 
 enum-told : tie.Need-enum-told
 enum-told c = search needs
@@ -72,25 +74,31 @@ enum-told-2 c = search needs
 ring-search-requires : tie.Need-ring-search-requires
 ring-search-requires c κs =
     let h = c .before .before in
-    let s = h .before .before .before .before .before in
-    let a = s .args in
-    (s .pre .0, s .pre .1, omega arith, ring-best-in (sumOf s) (a .fcode) (unitsPerPel (a .mode) / 2) (begun s (a .mode)) (h .half-ring .result) (half-is h) (begun-in s))
+    let s = startAt h in
+    let t = s .args .settings in
+    record {
+      ready = s .pre .0;
+      settings = s .pre .1;
+      step-small = omega arith;
+      centre-in = ring-best-in (sumOf s) (t .fcode) (unitsPerPel (t .mode) / 2) (begun s) (h .half-ring .result) (half-is h) (begun-in s);
+    }
 
 returns : tie.Need-returns
 returns c =
     let h = c .before .before in
-    let s = h .before .before .before .before .before in
-    let e = c .enum-told .given .1 in
-    half-is h ∙ ap (halfIn s) e ∙ refine-half (sumOf s) (s .args .fcode) (s .args .d) ∙ ap (refinedIn s) (sym e)
+    let s = startAt h in
+    half-is h ∙ refine-half (sumOf s) (s .args .settings) (s .args .winner .vector) (c .enum-told .given .1)
 
 returns-2 : tie.Need-returns-2
 returns-2 c =
     let q = c .before in
     let h = q .before .before in
-    let s = h .before .before .before .before .before in
+    let s = startAt h in
+    let t = s .args .settings in
     let g = q .enum-told2 .given in
-    c .ring-search .ensures ∙ refine-quarter (sumOf s) (g .0 .0) (s .args .fcode) (s .args .d) (h .half-ring .result) (half-is h ∙ ap (halfIn s) (g .1))
-    ∙ ap (refinedIn s) (sym (g .1))
+    c .ring-search .ensures
+    ∙ ap (λ (k : Scored). foldl (consider (sumOf s)) k (ring (t .fcode) 1 (k .vector))) (half-is h)
+    ∙ refine-quarter (sumOf s) t (s .args .winner .vector) (g .0 .0) (g .1)
 
 pub refine-subpel-spec : {M : Type 1} → statement M
 refine-subpel-spec =

@@ -5,25 +5,25 @@ use mathlib.Core.List.{foldl}
 use mathlib.Core.Path.{_≡_, refl, ap, _∙_}
 use Rattle.basis.specs.Lists.{rows}
 use Rattle.record.specs.declared.MotionVector.{MotionVector}
-use Rattle.plane.specs.Plane.{planeOf}
+use Rattle.full_search.specs.Block.{blockOf}
+use Rattle.full_search.specs.Costs.{consider}
+use Rattle.full_search.proofs.Kept.{pieces-more}
 use Rattle.search.specs.Sums.{vectorSum}
 use Rattle.search.specs.Sub.{ringAt, ring}
-use Rattle.search.specs.Kept.{consider}
-use Rattle.search.specs.Told.{blockOf}
-use Rattle.search.proofs.Kept.{pieces-more}
 use borrow.Author.Needs.{needs}
 use Rattle.search.proofs.sub.ring_search.Statement.{statement}
 use Rattle.search.proofs.sub.ring_search.Tie as tie
 
 abbrev Inv-loop : tie.InvT-loop
-Inv-loop source side reference geometry x y mode fcode step best b₀ n₀ b n =
-    (n ≤ 9) × (b ≡ foldl (consider (vectorSum mode (blockOf side source (planeOf reference geometry) x y))) best (rows n (ringAt fcode step (best .vector))))
+Inv-loop source reference target settings step best b₀ n₀ b n =
+    let sum = vectorSum settings (blockOf source reference target) in
+    (n ≤ 9) × (b ≡ foldl (consider sum) best (rows n (ringAt (settings .fcode) step (best .vector))))
 
 abbrev μ-loop : tie.MeasureT-loop
-μ-loop source side reference geometry x y mode fcode step best b₀ n₀ b n = 9 - n
+μ-loop source reference target settings step best b₀ n₀ b n = 9 - n
 
 abbrev sumOf : tie.Start Inv-loop μ-loop → MotionVector → ℕ
-sumOf s = let a = s .args in vectorSum (a .mode) (blockOf (a .side) (a .source .now) (planeOf (a .reference .now) (a .geometry)) (a .x) (a .y))
+sumOf s = let a = s .args in vectorSum (a .settings) (blockOf (a .source .now) (a .reference .now) (a .target))
 
 loop-holds : tie.Need-loop-holds Inv-loop μ-loop
 unfolding rows
@@ -32,7 +32,7 @@ loop-holds c = (omega arith, refl)
 ring-place-requires : tie.Need-ring-place-requires Inv-loop μ-loop
 ring-place-requires c κs =
     let s = c .before .before .before .before in
-    (s .pre .0, s .pre .1, s .pre .2, s .pre .3, c .loop-test .taken)
+    (s .pre, c .loop-test .taken)
 
 add-n : tie.Need-add-n Inv-loop μ-loop
 add-n c = search needs
@@ -45,7 +45,8 @@ loop-again c =
     let l = c .before .before in
     let s = l .before .before .before in
     let a = s .args in
-    (omega arith, c .ring-place .ensures ∙ pieces-more (consider (sumOf s)) (a .best) (l .loop .b) (ringAt (a .fcode) (a .step) (a .best .vector)) (l .loop .n) (l .loop .inv .1) refl)
+    let place = ringAt (a .settings .fcode) (a .step) (a .best .vector) in
+    (omega arith, c .ring-place .ensures ∙ pieces-more (sumOf s) (a .best) (l .loop .b) place (l .loop .n) (l .loop .inv .1) refl)
 
 returns : tie.Need-returns Inv-loop μ-loop
 unfolding ring
@@ -54,7 +55,7 @@ returns c =
     let s = l .before .before .before in
     let a = s .args in
     let e : l .loop .n ≡ 9 = omega arith in
-    l .loop .inv .1 ∙ ap (λ (n : ℕ). foldl (consider (sumOf s)) (a .best) (rows n (ringAt (a .fcode) (a .step) (a .best .vector)))) e
+    l .loop .inv .1 ∙ ap (λ (n : ℕ). foldl (consider (sumOf s)) (a .best) (rows n (ringAt (a .settings .fcode) (a .step) (a .best .vector)))) e
 
 pub ring-search-spec : {M : Type 1} → statement M
 ring-search-spec =

@@ -20,7 +20,9 @@ product-fits : (s : tie.Start) → SFits w32 (s .args .z *ℤ pos (s .args .unit
 product-fits s =
     let z = s .args .z in
     let u = s .args .units in
-    parts-fit (z *ℤ pos u) (omega (arith, above-mul z u, product-le (s .pre .0) (s .pre .2))) (omega (arith, below-mul z u, product-le (s .pre .1) (s .pre .2)))
+    parts-fit (z *ℤ pos u)
+    (omega (arith, above-mul z u, product-le (s .pre .0) (s .pre .2)))
+    (omega (arith, below-mul z u, product-le (s .pre .1) (s .pre .2)))
 
 cast-result : tie.Need-cast-result
 cast-result c = search needs

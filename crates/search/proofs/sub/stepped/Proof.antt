@@ -26,7 +26,7 @@ module _ (s : tie.Start) where
   small : on ≤ 6
   small =
       let k : s .args .k ≤ 3 = omega arith in
-      product-le (s .pre .2) k
+      product-le (s .pre .step-small) k
 
   -- what the machine adds, and that it fits
   sum-is : toZ w32 (ofZ w32 z) +ℤ toZ w32 on ≡ z +ℤ pos on

@@ -1,5 +1,5 @@
 -- `search::sub::vector_sum` meets its contract. Assumes nothing.
-use Rattle.search.proofs.Sides.{area-most}
+use Rattle.full_search.proofs.Sides.{area-most}
 use borrow.Author.Needs.{needs}
 use Rattle.search.proofs.sub.vector_sum.Statement.{statement}
 use Rattle.search.proofs.sub.vector_sum.Tie as tie
@@ -14,7 +14,7 @@ part-predicted-start : tie.Need-part-predicted-start
 part-predicted-start c = search needs
 
 part-predicted-end : tie.Need-part-predicted-end
-part-predicted-end c = let s = c .before .before in area-most (s .args .side) (s .pre .0 .is-side)
+part-predicted-end c = let s = c .before .before in area-most (s .args .target .side) (s .pre .ready .is-side)
 
 predicted-sum-requires : tie.Need-predicted-sum-requires
 predicted-sum-requires c κs = search needs

@@ -1,0 +1,13 @@
+pub mod EqualSums
+pub mod FullSearch
+pub mod Kept
+pub mod Lattice
+pub mod Listed
+pub mod Moves
+pub mod Near
+pub mod OnPatches
+pub mod Patches
+pub mod RowSums
+pub mod Shown
+pub mod Sides
+pub mod Taken
