@@ -81,15 +81,6 @@ coding-accepted n residual by lasts runs levels e =
     }
 
 -- and back
-pub residual-ready : (size : SourceSize) (y cb cr : ℕ) (place : MacroblockPlace) (p : Samples) (area : ℕ) → ResidualAccepted size y cb cr place p area
-    → residualReply size y cb cr place (length (p .y)) (length (p .cb)) (length (p .cr)) area ≡ Done
-unfolding residualReply
-residual-ready size y cb cr place p area r =
-    both-done (r .source)
-    (passed ((eqb (length (p .y)) 256 && (eqb (length (p .cb)) 64 && eqb (length (p .cr)) 64)) && eqb area 384) Length
-    (both (both (eq-eqb _ 256 (r .whole .luma)) (both (eq-eqb _ 64 (r .whole .blue)) (eq-eqb _ 64 (r .whole .red)))) (eq-eqb _ 384 (r .long)))
-    refl)
-
 pub coding-ready : (n : ℕ) (residual : List ℤ) (by : Quantising) (lasts runs levels : ℕ)
     → CodingAccepted n residual by lasts runs levels → codingReply n residual by lasts runs levels ≡ Done
 unfolding codingReply

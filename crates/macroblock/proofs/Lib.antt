@@ -5,4 +5,3 @@ pub mod Demanded
 mod Accepted
 mod Answers
 mod Sums
-mod Taken

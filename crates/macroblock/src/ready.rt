@@ -71,7 +71,8 @@ fn search_vectors(
     }
 }
 
-// The events of source less prediction, and how many each of the six blocks has.
+// The events of source less prediction, and how many each of the six blocks has. `marks` tells which event is its block's last,
+// `zero_runs` how many zeros stand before each.
 fn code_residual(
     settings: Settings,
     y: &[u8],

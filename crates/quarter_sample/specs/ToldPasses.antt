@@ -13,7 +13,6 @@ use Rattle.plane.specs.declared.Geometry.{Geometry}
 use Rattle.plane.specs.declared.Point.{Point}
 use Rattle.plane.specs.declared.Site.{Site}
 use Rattle.plane.specs.Reference.{blockReply}
-use Rattle.quarter_sample.specs.declared.Wanted.{Wanted}
 use Rattle.quarter_sample.specs.declared.Start.{Start}
 use Rattle.quarter_sample.specs.Split.{splitQuarter}
 use Rattle.quarter_sample.specs.Filter.{mirror, fir, average}
@@ -60,29 +59,27 @@ unfoldable pub bufferSource : List ℕ → ℕ → ℕ → Source
 bufferSource l w h = mirrored (λ (i j : ℕ). getD l (j * w + i) 0) w h
 
 -- the rows alone at a fraction, out of a block with one column more
-abbrev pub rowsAt : Wanted → ℕ → List ℕ → List ℕ
-rowsAt wanted fraction block =
-    raster (wanted .width) (wanted .height) (λ (i j : ℕ). step (wanted .rc) (wanted .max) fraction (rowLine block (wanted .width + 1) j) i)
+abbrev pub rowsAt : ℕ → ℕ → ℕ → ℕ → ℕ → List ℕ → List ℕ
+rowsAt w h rc max fraction block = raster w h (λ (i j : ℕ). step rc max fraction (rowLine block (w + 1) j) i)
 
 -- the columns alone, out of one row more of `stride` samples
-abbrev pub columnsAt : Wanted → ℕ → List ℕ → ℕ → List ℕ
-columnsAt wanted fraction src stride =
-    raster (wanted .width) (wanted .height) (λ (i j : ℕ). step (wanted .rc) (wanted .max) fraction (columnLine src stride (wanted .height + 1) i) j)
+abbrev pub columnsAt : ℕ → ℕ → ℕ → ℕ → ℕ → List ℕ → ℕ → List ℕ
+columnsAt w h rc max fraction src stride = raster w h (λ (i j : ℕ). step rc max fraction (columnLine src stride (h + 1) i) j)
 
 -- the source that a copied block with one column and one row more than is wanted holds
-abbrev pub blockSource : Wanted → List ℕ → Source
-blockSource wanted block = bufferSource block (wanted .width + 1) (wanted .height + 1)
+abbrev pub blockSource : ℕ → ℕ → List ℕ → Source
+blockSource w h block = bufferSource block (w + 1) (h + 1)
 
 -- both steps over it, and one of its sixteen places
-abbrev pub bothAt : Wanted → ℕ → ℕ → List ℕ → List ℕ
-bothAt wanted fx fy block = raster (wanted .width) (wanted .height) (stepBoth (wanted .rc) (wanted .max) fx fy (blockSource wanted block))
+abbrev pub bothAt : ℕ → ℕ → ℕ → ℕ → ℕ → ℕ → List ℕ → List ℕ
+bothAt w h rc max fx fy block = raster w h (stepBoth rc max fx fy (blockSource w h block))
 
-abbrev pub placeAt : Wanted → ℕ → List ℕ → List ℕ
-placeAt wanted n block = raster (wanted .width) (wanted .height) (place (wanted .rc) (wanted .max) (blockSource wanted block) n)
+abbrev pub placeAt : ℕ → ℕ → ℕ → ℕ → ℕ → List ℕ → List ℕ
+placeAt w h rc max n block = raster w h (place rc max (blockSource w h block) n)
 
 -- the whole samples
-abbrev pub wholeAt : Wanted → List ℕ → List ℕ
-wholeAt wanted block = raster (wanted .width) (wanted .height) (λ (i j : ℕ). getD block (j * (wanted .width + 1) + i) 0)
+abbrev pub wholeAt : ℕ → ℕ → List ℕ → List ℕ
+wholeAt w h block = raster w h (λ (i j : ℕ). getD block (j * (w + 1) + i) 0)
 
 -- where the copied block starts, and the place within it
 abbrev pub startOf : Point → MotionVector → Start
@@ -109,24 +106,24 @@ pub record TapsFit (t0 t1 t2 t3 t4 t5 t6 t7 : List ℕ) (n : ℕ) : Type 0 where
   pub fits7 : length t7 ≡ n
 
 -- row j of a block with rows of n samples
-pub record LineNeeds (block n j : ℕ) (wanted : Wanted) (fraction line out : ℕ) : Type 0 where
+pub record LineNeeds (block n j fraction rc line out : ℕ) : Type 0 where
   pub n-low : 3 ≤ n
   pub n-high : n ≤ 17
   pub inside : j * n + n ≤ block
   pub fraction-small : fraction < 4
-  pub rc-small : wanted .rc ≤ 1
+  pub rc-small : rc ≤ 1
   pub line-fits : line ≡ n + 6
   pub out-fits : out + 1 ≡ n
 
 -- the first rows of a block with one column more than is wanted
-pub record RowsNeeds (block : ℕ) (wanted : Wanted) (fraction out : ℕ) : Type 0 where
-  pub width-low : 2 ≤ wanted .width
-  pub width-high : wanted .width ≤ 16
-  pub height-high : wanted .height ≤ 17
-  pub inside : wanted .height * (wanted .width + 1) ≤ block
+pub record RowsNeeds (block w h fraction rc out : ℕ) : Type 0 where
+  pub width-low : 2 ≤ w
+  pub width-high : w ≤ 16
+  pub height-high : h ≤ 17
+  pub inside : h * (w + 1) ≤ block
   pub fraction-small : fraction < 4
-  pub rc-small : wanted .rc ≤ 1
-  pub out-fits : out ≡ wanted .height * wanted .width
+  pub rc-small : rc ≤ 1
+  pub out-fits : out ≡ h * w
 
 -- the row that index u - 3 of `size` rows of `stride` samples reads
 pub record TapNeeds (src stride w u size : ℕ) : Type 0 where
@@ -138,7 +135,7 @@ pub record TapNeeds (src stride w u size : ℕ) : Type 0 where
   pub inside : size * stride ≤ src
 
 -- row j between `size` rows of `stride` samples
-pub record ColumnRowNeeds (src stride size j : ℕ) (wanted : Wanted) (fraction out : ℕ) : Type 0 where
+pub record ColumnRowNeeds (src stride size j fraction rc out : ℕ) : Type 0 where
   pub narrow : out ≤ stride
   pub stride-high : stride ≤ 17
   pub size-low : 3 ≤ size
@@ -146,25 +143,25 @@ pub record ColumnRowNeeds (src stride size j : ℕ) (wanted : Wanted) (fraction 
   pub j-high : j + 1 < size
   pub inside : size * stride ≤ src
   pub fraction-small : fraction < 4
-  pub rc-small : wanted .rc ≤ 1
+  pub rc-small : rc ≤ 1
 
 -- the wanted block between one row more of `stride` samples
-pub record ColumnsNeeds (src stride : ℕ) (wanted : Wanted) (fraction out : ℕ) : Type 0 where
-  pub narrow : wanted .width ≤ stride
+pub record ColumnsNeeds (src stride w h fraction rc out : ℕ) : Type 0 where
+  pub narrow : w ≤ stride
   pub stride-high : stride ≤ 17
-  pub height-low : 2 ≤ wanted .height
-  pub height-high : wanted .height ≤ 16
-  pub inside : (wanted .height + 1) * stride ≤ src
+  pub height-low : 2 ≤ h
+  pub height-high : h ≤ 16
+  pub inside : (h + 1) * stride ≤ src
   pub fraction-small : fraction < 4
-  pub rc-small : wanted .rc ≤ 1
-  pub out-fits : out ≡ wanted .height * wanted .width
+  pub rc-small : rc ≤ 1
+  pub out-fits : out ≡ h * w
 
 -- a copied block with one column and one row more than is wanted
-pub record PlaceNeeds (block : ℕ) (wanted : Wanted) (out : ℕ) : Type 0 where
-  pub width-low : 2 ≤ wanted .width
-  pub width-high : wanted .width ≤ 16
-  pub height-low : 2 ≤ wanted .height
-  pub height-high : wanted .height ≤ 16
-  pub block-fits : block ≡ (wanted .height + 1) * (wanted .width + 1)
-  pub rc-small : wanted .rc ≤ 1
-  pub out-fits : out ≡ wanted .height * wanted .width
+pub record PlaceNeeds (block w h rc out : ℕ) : Type 0 where
+  pub width-low : 2 ≤ w
+  pub width-high : w ≤ 16
+  pub height-low : 2 ≤ h
+  pub height-high : h ≤ 16
+  pub block-fits : block ≡ (h + 1) * (w + 1)
+  pub rc-small : rc ≤ 1
+  pub out-fits : out ≡ h * w

@@ -47,15 +47,6 @@ pub fn bits_reply(bits_per_pixel: u32) -> Reply
     )
 }
 
-// What is wanted of a block: how wide and how high it is, the rounding control that its filters and averages are lowered by, and the
-// largest sample that they are cut to.
-struct Wanted {
-    width: usize,
-    height: usize,
-    rc: u8,
-    max: u8,
-}
-
 // Where the copied block starts, and which of the sixteen places within it.
 struct Start {
     at: Point,
@@ -105,13 +96,15 @@ fn interpolate_within(
         site.height + 1,
         buffer,
     );
-    let wanted = Wanted {
-        width: site.width,
-        height: site.height,
-        rc: rounding % 2,
-        max: filter::largest_sample(bits_per_pixel),
-    };
-    passes::interpolate_place(buffer, wanted, start.fractions, out);
+    passes::interpolate_place(
+        buffer,
+        site.width,
+        site.height,
+        start.fractions,
+        rounding % 2,
+        filter::largest_sample(bits_per_pixel),
+        out,
+    );
 }
 
 fn interpolate(

@@ -1,4 +1,6 @@
 // The two passes over a copied block of w + 1 columns and h + 1 rows, whose rows follow each other directly.
+// Sides, rounding and largest sample come as numbers and not in a struct: read out of one, rows of 8 samples are filtered by fours
+// instead of by eights, which the bench rows `quarter 8x8 inside ...` watch.
 ghost use mathlib.Core.Path.{_≡_};
 ghost use Prim.Native.Nat.{_+_, _*_, _<_, _≤_};
 ghost use lib.IntN.{pos, _-ℤ_};
@@ -6,7 +8,6 @@ ghost use lib.ListN.{length, getD};
 ghost use Rattle.basis.specs.Lists.{tabulate};
 ghost use Rattle.quarter_sample.specs.ToldPasses.{step, reflected, rowLine, columnLine, rowsAt, columnsAt, bothAt, placeAt, wholeAt};
 ghost use Rattle.quarter_sample.specs.ToldPasses.{LineNeeds, RowsNeeds, TapNeeds, ColumnRowNeeds, ColumnsNeeds, PlaceNeeds};
-use crate::Wanted;
 use crate::filter;
 
 fn part(s: &[u8], at: usize, n: usize) -> &[u8]
@@ -51,13 +52,14 @@ fn filter_row(
     block: &[u8],
     n: usize,
     j: usize,
-    wanted: Wanted,
     fraction: u8,
+    rc: u8,
+    max: u8,
     line: &mut [u8],
     out: &mut [u8],
 )
-    requires { ⌜ LineNeeds (length (now block)) n j wanted fraction (length (now line)) (length (now out)) ⌝ }
-    ensures { λ _. ⌜ now (out .exit) ≡ tabulate (length (now (out .entry))) (step (wanted .rc) (wanted .max) fraction (rowLine (now (block .entry)) n j)) ⌝ }
+    requires { ⌜ LineNeeds (length (now block)) n j fraction rc (length (now line)) (length (now out)) ⌝ }
+    ensures { λ _. ⌜ now (out .exit) ≡ tabulate (length (now (out .entry))) (step rc max fraction (rowLine (now (block .entry)) n j)) ⌝ }
 {
     let at = j * n;
     let end = at + n;
@@ -73,23 +75,31 @@ fn filter_row(
         part(line, 6, w),
         part(line, 7, w),
         fraction,
-        wanted.rc,
-        wanted.max,
+        rc,
+        max,
         out,
     );
 }
 
-// The first rows of a block whose rows have one sample more than is wanted, at the horizontal fraction.
-fn filter_rows(block: &[u8], wanted: Wanted, fraction: u8, line: &mut [u8], out: &mut [u8])
-    requires { ⌜ RowsNeeds (length (now block)) wanted fraction (length (now out)) × (length (now line) ≡ wanted .width + 7) ⌝ }
-    ensures { λ _. ⌜ now (out .exit) ≡ rowsAt wanted fraction (now (block .entry)) ⌝ }
+// The first h rows of a block with rows of w + 1 samples, at the horizontal fraction.
+fn filter_rows(
+    block: &[u8],
+    w: usize,
+    h: usize,
+    fraction: u8,
+    rc: u8,
+    max: u8,
+    line: &mut [u8],
+    out: &mut [u8],
+)
+    requires { ⌜ RowsNeeds (length (now block)) w h fraction rc (length (now out)) × (length (now line) ≡ w + 7) ⌝ }
+    ensures { λ _. ⌜ now (out .exit) ≡ rowsAt w h rc max fraction (now (block .entry)) ⌝ }
 {
-    let w = wanted.width;
     let n = w + 1;
-    for j in 0..wanted.height {
+    for j in 0..h {
         let from = j * w;
         let to = from + w;
-        filter_row(block, n, j, wanted, fraction, line, &mut out[from..to]);
+        filter_row(block, n, j, fraction, rc, max, line, &mut out[from..to]);
     }
 }
 
@@ -109,13 +119,14 @@ fn filter_column_row(
     stride: usize,
     size: usize,
     j: usize,
-    wanted: Wanted,
     fraction: u8,
+    rc: u8,
+    max: u8,
     out: &mut [u8],
 )
-    requires { ⌜ ColumnRowNeeds (length (now src)) stride size j wanted fraction (length (now out)) ⌝ }
+    requires { ⌜ ColumnRowNeeds (length (now src)) stride size j fraction rc (length (now out)) ⌝ }
     ensures { λ _. ⌜ now (out .exit) ≡ tabulate (length (now (out .entry)))
-        (λ i. step (wanted .rc) (wanted .max) fraction (columnLine (now (src .entry)) stride size i) j) ⌝ }
+        (λ i. step rc max fraction (columnLine (now (src .entry)) stride size i) j) ⌝ }
 {
     let w = out.len();
     filter::filter_taps(
@@ -128,70 +139,79 @@ fn filter_column_row(
         tap_row(src, stride, w, j + 6, size),
         tap_row(src, stride, w, j + 7, size),
         fraction,
-        wanted.rc,
-        wanted.max,
+        rc,
+        max,
         out,
     );
 }
 
-// The wanted block, out of one row more of `stride` samples, at the vertical fraction.
-fn column_pass(src: &[u8], stride: usize, wanted: Wanted, fraction: u8, out: &mut [u8])
-    requires { ⌜ ColumnsNeeds (length (now src)) stride wanted fraction (length (now out)) ⌝ }
-    ensures { λ _. ⌜ now (out .exit) ≡ columnsAt wanted fraction (now (src .entry)) stride ⌝ }
+// h rows of w samples, out of h + 1 rows of `stride` samples, at the vertical fraction.
+fn column_pass(
+    src: &[u8],
+    stride: usize,
+    w: usize,
+    h: usize,
+    fraction: u8,
+    rc: u8,
+    max: u8,
+    out: &mut [u8],
+)
+    requires { ⌜ ColumnsNeeds (length (now src)) stride w h fraction rc (length (now out)) ⌝ }
+    ensures { λ _. ⌜ now (out .exit) ≡ columnsAt w h rc max fraction (now (src .entry)) stride ⌝ }
 {
-    let w = wanted.width;
-    let size = wanted.height + 1;
-    for j in 0..wanted.height {
+    let size = h + 1;
+    for j in 0..h {
         let from = j * w;
         let to = from + w;
-        filter_column_row(src, stride, size, j, wanted, fraction, &mut out[from..to]);
+        filter_column_row(src, stride, size, j, fraction, rc, max, &mut out[from..to]);
     }
 }
 
-// The first rows of a block, at the horizontal fraction.
-fn row_pass(block: &[u8], wanted: Wanted, fraction: u8, out: &mut [u8])
-    requires { ⌜ RowsNeeds (length (now block)) wanted fraction (length (now out)) ⌝ }
-    ensures { λ _. ⌜ now (out .exit) ≡ rowsAt wanted fraction (now (block .entry)) ⌝ }
+// The first h rows of a block, at the horizontal fraction.
+fn row_pass(block: &[u8], w: usize, h: usize, fraction: u8, rc: u8, max: u8, out: &mut [u8])
+    requires { ⌜ RowsNeeds (length (now block)) w h fraction rc (length (now out)) ⌝ }
+    ensures { λ _. ⌜ now (out .exit) ≡ rowsAt w h rc max fraction (now (block .entry)) ⌝ }
 {
     let mut line = [0u8; 23];
-    let count = wanted.width + 7;
-    filter_rows(block, wanted, fraction, &mut line[..count], out);
+    let count = w + 7;
+    filter_rows(block, w, h, fraction, rc, max, &mut line[..count], out);
 }
 
 // Both passes: the rows into the middle buffer, and its columns out of it.
-fn pass_through(block: &[u8], wanted: Wanted, fx: u8, fy: u8, middle: &mut [u8], out: &mut [u8])
-    requires { ⌜ PlaceNeeds (length (now block)) wanted (length (now out)) ⌝ }
-    requires { ⌜ (fx < 4) × (fy < 4) × (length (now middle) ≡ (wanted .height + 1) * wanted .width) ⌝ }
-    ensures { λ _. ⌜ now (out .exit) ≡ bothAt wanted fx fy (now (block .entry)) ⌝ }
+fn pass_through(
+    block: &[u8],
+    w: usize,
+    h: usize,
+    fx: u8,
+    fy: u8,
+    rc: u8,
+    max: u8,
+    middle: &mut [u8],
+    out: &mut [u8],
+)
+    requires { ⌜ PlaceNeeds (length (now block)) w h rc (length (now out)) ⌝ }
+    requires { ⌜ (fx < 4) × (fy < 4) × (length (now middle) ≡ (h + 1) * w) ⌝ }
+    ensures { λ _. ⌜ now (out .exit) ≡ bothAt w h rc max fx fy (now (block .entry)) ⌝ }
 {
-    let w = wanted.width;
-    let taller = Wanted {
-        width: w,
-        height: wanted.height + 1,
-        rc: wanted.rc,
-        max: wanted.max,
-    };
-    row_pass(block, taller, fx, middle);
-    column_pass(middle, w, wanted, fy, out);
+    row_pass(block, w, h + 1, fx, rc, max, middle);
+    column_pass(middle, w, w, h, fy, rc, max, out);
 }
 
-fn both_passes(block: &[u8], wanted: Wanted, fx: u8, fy: u8, out: &mut [u8])
-    requires { ⌜ PlaceNeeds (length (now block)) wanted (length (now out)) × (fx < 4) × (fy < 4) ⌝ }
-    ensures { λ _. ⌜ now (out .exit) ≡ bothAt wanted fx fy (now (block .entry)) ⌝ }
+fn both_passes(block: &[u8], w: usize, h: usize, fx: u8, fy: u8, rc: u8, max: u8, out: &mut [u8])
+    requires { ⌜ PlaceNeeds (length (now block)) w h rc (length (now out)) × (fx < 4) × (fy < 4) ⌝ }
+    ensures { λ _. ⌜ now (out .exit) ≡ bothAt w h rc max fx fy (now (block .entry)) ⌝ }
 {
     let mut middle = [0u8; 272];
-    let count = (wanted.height + 1) * wanted.width;
-    pass_through(block, wanted, fx, fy, &mut middle[..count], out);
+    let count = (h + 1) * w;
+    pass_through(block, w, h, fx, fy, rc, max, &mut middle[..count], out);
 }
 
-// The whole samples, uncut: as many of the first rows and columns as are wanted.
-fn copy_rows(block: &[u8], wanted: Wanted, out: &mut [u8])
-    requires { ⌜ (wanted .width ≤ 16) × (wanted .height * (wanted .width + 1) ≤ length (now block)) ⌝ }
-    requires { ⌜ length (now out) ≡ wanted .height * wanted .width ⌝ }
-    ensures { λ _. ⌜ now (out .exit) ≡ wholeAt wanted (now (block .entry)) ⌝ }
+// The whole samples, uncut: the first w of each of the first h rows.
+fn copy_rows(block: &[u8], w: usize, h: usize, out: &mut [u8])
+    requires { ⌜ (w ≤ 16) × (h * (w + 1) ≤ length (now block)) × (length (now out) ≡ h * w) ⌝ }
+    ensures { λ _. ⌜ now (out .exit) ≡ wholeAt w h (now (block .entry)) ⌝ }
 {
-    let w = wanted.width;
-    for j in 0..wanted.height {
+    for j in 0..h {
         let at = j * (w + 1);
         let from = j * w;
         let to = from + w;
@@ -201,26 +221,34 @@ fn copy_rows(block: &[u8], wanted: Wanted, out: &mut [u8])
 
 // A copied block's samples at one of the sixteen places, which is fx + 4 fy. The fractions are written out, so that each arm's loops
 // are compiled for their own.
-pub fn interpolate_place(block: &[u8], wanted: Wanted, fractions: u8, out: &mut [u8])
-    requires { ⌜ PlaceNeeds (length (now block)) wanted (length (now out)) × (fractions < 16) ⌝ }
-    ensures { λ _. ⌜ now (out .exit) ≡ placeAt wanted fractions (now (block .entry)) ⌝ }
+pub fn interpolate_place(
+    block: &[u8],
+    w: usize,
+    h: usize,
+    fractions: u8,
+    rc: u8,
+    max: u8,
+    out: &mut [u8],
+)
+    requires { ⌜ PlaceNeeds (length (now block)) w h rc (length (now out)) × (fractions < 16) ⌝ }
+    ensures { λ _. ⌜ now (out .exit) ≡ placeAt w h rc max fractions (now (block .entry)) ⌝ }
 {
     match fractions {
-        0 => copy_rows(block, wanted, out),
-        1 => row_pass(block, wanted, 1, out),
-        2 => row_pass(block, wanted, 2, out),
-        3 => row_pass(block, wanted, 3, out),
-        4 => column_pass(block, wanted.width + 1, wanted, 1, out),
-        5 => both_passes(block, wanted, 1, 1, out),
-        6 => both_passes(block, wanted, 2, 1, out),
-        7 => both_passes(block, wanted, 3, 1, out),
-        8 => column_pass(block, wanted.width + 1, wanted, 2, out),
-        9 => both_passes(block, wanted, 1, 2, out),
-        10 => both_passes(block, wanted, 2, 2, out),
-        11 => both_passes(block, wanted, 3, 2, out),
-        12 => column_pass(block, wanted.width + 1, wanted, 3, out),
-        13 => both_passes(block, wanted, 1, 3, out),
-        14 => both_passes(block, wanted, 2, 3, out),
-        _ => both_passes(block, wanted, 3, 3, out),
+        0 => copy_rows(block, w, h, out),
+        1 => row_pass(block, w, h, 1, rc, max, out),
+        2 => row_pass(block, w, h, 2, rc, max, out),
+        3 => row_pass(block, w, h, 3, rc, max, out),
+        4 => column_pass(block, w + 1, w, h, 1, rc, max, out),
+        5 => both_passes(block, w, h, 1, 1, rc, max, out),
+        6 => both_passes(block, w, h, 2, 1, rc, max, out),
+        7 => both_passes(block, w, h, 3, 1, rc, max, out),
+        8 => column_pass(block, w + 1, w, h, 2, rc, max, out),
+        9 => both_passes(block, w, h, 1, 2, rc, max, out),
+        10 => both_passes(block, w, h, 2, 2, rc, max, out),
+        11 => both_passes(block, w, h, 3, 2, rc, max, out),
+        12 => column_pass(block, w + 1, w, h, 3, rc, max, out),
+        13 => both_passes(block, w, h, 1, 3, rc, max, out),
+        14 => both_passes(block, w, h, 2, 3, rc, max, out),
+        _ => both_passes(block, w, h, 3, 3, rc, max, out),
     }
 }

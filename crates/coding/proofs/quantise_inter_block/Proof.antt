@@ -15,19 +15,19 @@ use Rattle.coding.proofs.quantise_inter_block.Tie as tie
 abbrev quantisingAt : tie.Start → Quantising
 quantisingAt s = quantisingOf (s .args .quantiser) (s .args .first-method) (s .args .weights .now) (s .args .scan)
 
-abbrev replyOf : tie.Start → Reply
-replyOf s =
+abbrev replyAt : tie.Start → Reply
+replyAt s =
     let a = s .args in
     codingReply 64 (a .residual .now) (quantisingAt s) (length (a .lasts .now)) (length (a .runs .now)) (length (a .levels .now))
 
 -- the answer, by its reply
-abbrev answer : tie.Start → Reply → Events
-answer s r = blockEvents r (quantisingAt s) (s .args .residual .now)
+abbrev answerAt : tie.Start → Reply → Events
+answerAt s r = blockEvents r (quantisingAt s) (s .args .residual .now)
 
 abbrev startAt : tie.After-enum-told → tie.Start
 startAt c = c .before .before .before .before .before .before
 
-accepted : (c : tie.After-enum-told) → replyOf (startAt c) ≡ Done
+accepted : (c : tie.After-enum-told) → replyAt (startAt c) ≡ Done
 accepted c = sym (c .before .before .coding-reply .ensures) ∙ c .enum-told .given .1
 
 coding-reply-requires : tie.Need-coding-reply-requires
@@ -48,7 +48,7 @@ returns : tie.Need-returns
 returns c =
     let r = c .before .before .before in
     let s = r .before .before .before .before in
-    (ap (answer s) (sym (c .before .reply .given .1) ∙ r .coding-reply .ensures), refl)
+    (ap (answerAt s) (sym (c .before .reply .given .1) ∙ r .coding-reply .ensures), refl)
 
 same-length : tie.Need-same-length
 same-length c = search needs
@@ -66,7 +66,7 @@ returns-2 c =
     let s = startAt t in
     let e = d .quantise-inter-block .ensures in
     let done : ℕ → Events = λ n. record { reply = Done; count = n } in
-    (ap done (e .0) ∙ ap (answer s) (sym (accepted t)), e .1)
+    (ap done (e .0) ∙ ap (answerAt s) (sym (accepted t)), e .1)
 
 pub quantise-inter-block-spec : {M : Type 1} → statement M
 quantise-inter-block-spec =

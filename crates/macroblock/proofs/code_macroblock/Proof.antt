@@ -19,8 +19,8 @@ asked s =
 abbrev startAt : tie.After-request-reply → tie.Start
 startAt c = c .before .before .before .before .before .before .before .before .before .before .before .before
 
-done : (c : tie.After-enum-told) → replyOf (asked (startAt (c .before .before))) ≡ Done
-done c = sym (c .before .before .request-reply .ensures) ∙ c .enum-told .given .1
+taken : (c : tie.After-enum-told) → replyOf (asked (startAt (c .before .before))) ≡ Done
+taken c = sym (c .before .before .request-reply .ensures) ∙ c .enum-told .given .1
 
 no-record-requires : tie.Need-no-record-requires
 no-record-requires c κs = search needs
@@ -36,7 +36,7 @@ enum-told c = search needs
 
 code-ready-requires : tie.Need-code-ready-requires
 code-ready-requires c κs =
-    done (c .before .before .before)
+    taken (c .before .before .before)
 
 returns : tie.Need-returns
 returns c =
@@ -58,8 +58,8 @@ returns-2 c =
     let t = k .before .before .before .before in
     let q = asked (startAt (t .before .before)) in
     let e = k .code-ready .ensures in
-    let is = done-answer q _ _ (done t) (e .0) (e .1) in
-    (is, λ _. subst (Demand 0 q) (sym is) (demanded q (done t)))
+    let is = done-answer q _ _ (taken t) (e .0) (e .1) in
+    (is, λ _. subst (Demand 0 q) (sym is) (demanded q (taken t)))
 
 pub code-macroblock-spec : {M : Type 1} → statement M
 code-macroblock-spec =

@@ -21,13 +21,13 @@ fits Done = refl
 fits (Refused why) = refl
 
 -- the answer, by its reply
-abbrev answer : tie.Start → Reply → Activity
-answer s r = record { reply = r; sum = done r (activityOf (sourceLuma (s .args .y .now) (s .args .size) (s .args .place))) 0 }
+abbrev answerAt : tie.Start → Reply → Activity
+answerAt s r = record { reply = r; sum = done r (activityOf (sourceLuma (s .args .y .now) (s .args .size) (s .args .place))) 0 }
 
-answered : (s : tie.Start) → let a = s .args in
-    answer s (sourceLumaReply (a .size) (length (a .y .now)) (a .place)) ≡ intraActivity (a .y .now) (a .size) (a .place)
+answer-is : (s : tie.Start) → let a = s .args in
+    answerAt s (sourceLumaReply (a .size) (length (a .y .now)) (a .place)) ≡ intraActivity (a .y .now) (a .size) (a .place)
 unfolding intraActivity
-answered s = refl
+answer-is s = refl
 
 abbrev startAt : tie.After-luma-block → tie.Start
 startAt c = c .before .before .before
@@ -58,7 +58,7 @@ returns : tie.Need-returns
 returns c =
     let l = c .before .before .before .before in
     let s = startAt l in
-    ap (answer s) (sym (c .before .why .given .1) ∙ replied l) ∙ answered s
+    ap (answerAt s) (sym (c .before .why .given .1) ∙ replied l) ∙ answer-is s
 
 returns-2 : tie.Need-returns-2
 returns-2 c =
@@ -70,8 +70,8 @@ returns-2 c =
     let copied : l .luma-block .last .1 .1 .1 .0 ≡ sourceLuma (a .y .now) (a .size) (a .place) =
     left _ Done _ _ _ is refl (l .luma-block .ensures .1) in
     ap (λ (n : ℕ). record { reply = Done; sum = n }) (c .activity .ensures ∙ ap activityOf copied)
-    ∙ ap (answer s) (sym is ∙ replied l)
-    ∙ answered s
+    ∙ ap (answerAt s) (sym is ∙ replied l)
+    ∙ answer-is s
 
 pub intra-activity-spec : {M : Type 1} → statement M
 intra-activity-spec =

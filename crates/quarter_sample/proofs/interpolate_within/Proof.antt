@@ -14,7 +14,6 @@ use Rattle.refusal.specs.Reply.{done}
 use Rattle.plane.specs.declared.Point.{Point}
 use Rattle.plane.specs.Plane.{planeOf, copied, copiedBlock}
 use Rattle.plane.proofs.Ready.{BlockReady, block-ready, copy-done}
-use Rattle.quarter_sample.specs.declared.Wanted.{Wanted}
 use Rattle.quarter_sample.specs.declared.Start.{Start}
 use Rattle.quarter_sample.specs.Block.{quarterSample, quarterBlock}
 use Rattle.quarter_sample.specs.Filter.{largest}
@@ -26,10 +25,6 @@ use Rattle.quarter_sample.proofs.interpolate_within.Tie as tie
 
 ready : (s : tie.Start) → let a = s .args in BlockReady (a .samples .now) (a .geometry) (a .vector) (a .site) (length (a .out .now))
 ready s = block-ready _ _ _ _ _ (s .pre .0 .ready)
-
--- what is wanted, cut to a largest sample
-abbrev wantedTo : tie.Start → ℕ → Wanted
-wantedTo s max = record { width = s .args .site .width; height = s .args .site .height; rc = s .args .rounding % 2; max = max }
 
 abbrev place-by-steps : tie.Start → Start
 place-by-steps s = startOf (s .args .site .corner) (s .args .vector)
@@ -74,7 +69,7 @@ copy-block-requires : tie.Need-copy-block-requires
 copy-block-requires c κs = search needs
 
 largest-sample-requires : tie.Need-largest-sample-requires
-largest-sample-requires c κs = let z = s (c .before .before) in (z .pre .0 .some-bits, z .pre .0 .few-bits)
+largest-sample-requires c κs = let z = s (c .before .before .before) in (z .pre .0 .some-bits, z .pre .0 .few-bits)
 
 interpolate-place-requires : tie.Need-interpolate-place-requires
 interpolate-place-requires c κs =
@@ -103,8 +98,8 @@ same-length-2 c = search needs
 returns : tie.Need-returns
 unfolding quarterBlock quarterSample
 returns c =
-    let l = c .before .before .before .before .before in
-    let d = l .before .before .before in
+    let l = c .before .before .before .before in
+    let d = l .before .before .before .before in
     let z = s d in
     let a = z .args in
     let f = ready z in
@@ -115,7 +110,7 @@ returns c =
     let fractions = ap (λ (t : Start). t .fractions) (begun d .start-of .ensures) in
     let r = copied (planeOf (a .samples .now) (a .geometry)) (o .x) (o .y) in
     c .before .before .interpolate-place .ensures
-    ∙ ap₂ (λ (m n : ℕ). placeAt (wantedTo z m) n (buffer d)) (l .largest-sample .ensures) fractions
+    ∙ ap₂ (λ (m n : ℕ). placeAt (a .site .width) (a .site .height) rc m n (buffer d)) (l .largest-sample .ensures) fractions
     ∙ buffer-copy rc (largest (a .bits-per-pixel)) (a .site .width) (a .site .height) (x .fraction) (y .fraction) r
     (buffer d) (omega (arith, f .side-w .low)) (omega (arith, f .side-h .low)) (rest-below (a .vector .x)) (rest-below (a .vector .y)) (copy d)
 

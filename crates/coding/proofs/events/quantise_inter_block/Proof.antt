@@ -20,21 +20,21 @@ use Rattle.coding.proofs.events.quantise_inter_block.Tie as tie
 abbrev quantisingAt : tie.Start → Quantising
 quantisingAt s = quantisingOf (s .args .quantiser) (s .args .first-method) (s .args .weights .now) (s .args .scan)
 
-abbrev blockIn : tie.Start → List ℤ
-blockIn s = s .args .residual .now
+abbrev blockAt : tie.Start → List ℤ
+blockAt s = s .args .residual .now
 
 -- the four steps, one after the other
 abbrev startAt : tie.After-forward-dct-8x8 → tie.Start
 startAt c = c .before .before .before .before .before
 
-transformed-is : (c : tie.After-forward-dct-8x8) → c .forward-dct-8x8 .last .1 .0 ≡ coefficients (blockIn (startAt c))
+transformed-is : (c : tie.After-forward-dct-8x8) → c .forward-dct-8x8 .last .1 .0 ≡ coefficients (blockAt (startAt c))
 transformed-is c =
     let s = startAt c in
     let e = c .forward-dct-8x8 .ensures in
-    left _ _ _ _ _ (e .0) (transform-done (blockIn s) (s .pre .long) (s .pre .small)) (e .1)
+    left _ _ _ _ _ (e .0) (transform-done (blockAt s) (s .pre .long) (s .pre .small)) (e .1)
 
 quantised-is : (c : tie.After-quantise-block) → let s = startAt (c .before .before .before .before) in
-    c .quantise-block .last .1 .1 .1 .1 .0 ≡ quantised (quantisingAt s) (blockIn s)
+    c .quantise-block .last .1 .1 .1 .1 .0 ≡ quantised (quantisingAt s) (blockAt s)
 unfolding quantised
 quantised-is c =
     let t = c .before .before .before .before in
@@ -43,18 +43,18 @@ quantised-is c =
     let e = c .quantise-block .ensures in
     left _ _ _ _ _ (e .0)
     (ap (λ (l : List ℤ). quantiseReply l (h .quantiser) (h .first) (h .weights) 64) (transformed-is t)
-    ∙ quantise-done h (s .pre .quantisable) (blockIn s))
+    ∙ quantise-done h (s .pre .quantisable) (blockAt s))
     (e .1 .0)
     ∙ ap (blockLevels (h .first) (h .quantiser) (h .weights)) (transformed-is t)
 
 scanned-is : (c : tie.After-forward-scan) → let s = startAt (c .before .before .before .before .before .before .before .before) in
-    c .forward-scan .last .1 .1 .0 ≡ inScan (quantisingAt s) (blockIn s)
+    c .forward-scan .last .1 .1 .0 ≡ inScan (quantisingAt s) (blockAt s)
 scanned-is c =
     let t = c .before .before .before .before in
     let s = startAt (t .before .before .before .before) in
     let h = quantisingAt s in
     let e = c .forward-scan .ensures in
-    left _ _ _ _ _ (e .0) (ap (λ (l : List ℤ). scanReply l (h .scan) 64) (quantised-is t) ∙ scan-done h (s .pre .quantisable) (blockIn s)) (e .1 .0)
+    left _ _ _ _ _ (e .0) (ap (λ (l : List ℤ). scanReply l (h .scan) 64) (quantised-is t) ∙ scan-done h (s .pre .quantisable) (blockAt s)) (e .1 .0)
     ∙ ap (scanned (gridOf (h .scan))) (quantised-is t)
 
 slice-aggregate-forward-dct-8x8 : tie.Need-slice-aggregate-forward-dct-8x8
@@ -107,7 +107,7 @@ returns c =
     let e = v .levels-to-events .ensures in
     let d : eventsReply l (length (s .args .lasts .now)) (length (s .args .runs .now)) (length (s .args .levels .now)) ≡ Done =
     ap (λ (l : List ℤ). eventsReply l (length (s .args .lasts .now)) (length (s .args .runs .now)) (length (s .args .levels .now))) is
-    ∙ events-done h (s .pre .quantisable) (blockIn s) _ _ _ (s .pre .lasts-long) (s .pre .runs-long) (s .pre .levels-long) in
+    ∙ events-done h (s .pre .quantisable) (blockAt s) _ _ _ (s .pre .lasts-long) (s .pre .runs-long) (s .pre .levels-long) in
     let r = events-reply l _ _ _ _ (e .0) d in (
       events-count l _ _ _ _ (e .0) d ∙ ap (λ (l : List ℤ). length (eventsOf l)) is,
       same-areas

@@ -1,6 +1,6 @@
 -- `hencouch::motion::hencouch_estimate_motion` meets its contract. Assumes nothing.
 use mathlib.Core.List.{List, [], _∷_}
-use mathlib.Core.Path.{_≡_, ap, _∙_}
+use mathlib.Core.Path.{ap, _∙_}
 use lib.IntN.{ℤ}
 use lib.ListN.{length}
 use Prim.Native.Nat.{ℕ}

@@ -4,7 +4,6 @@ use mathlib.Core.Path.{_≡_, ap, ap₂, _∙_}
 use lib.IntN.{ℤ}
 use lib.ListN.{length}
 use mir.Syntax.{w32}
-use mir.Val.{toZ, ofZ}
 use mir.ValLaws.{toZ-ofZ}
 use Prim.Native.Nat.{ℕ}
 use Rattle.refusal.specs.declared.Reply.{Reply}

@@ -9,7 +9,7 @@ use Rattle.coding.specs.declared.Counted.{Counted}
 use Rattle.coding.specs.Residual.{Samples, samples, sourceOf, residualOf}
 use Rattle.coding.specs.Coding.{Quantising, quantisingOf, countsOf, areasOf}
 use Rattle.coding.proofs.SixBlocks.{residual-length}
-use Rattle.macroblock.proofs.Taken.{residual-taken, coding-taken}
+use Rattle.coding.proofs.Taken.{residual-taken, coding-taken}
 use borrow.Author.Needs.{needs}
 use Rattle.macroblock.proofs.ready.code_residual.Statement.{statement}
 use Rattle.macroblock.proofs.ready.code_residual.Tie as tie

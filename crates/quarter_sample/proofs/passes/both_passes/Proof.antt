@@ -13,8 +13,8 @@ fits w h p q =
     let k : h + 1 ≤ 17 = omega arith in
     product-le k p
 
-small : (s : tie.Start) → (s .args .wanted .height + 1) * s .args .wanted .width ≤ 272
-small s = fits (s .args .wanted .width) (s .args .wanted .height) (s .pre .0 .width-high) (s .pre .0 .height-high)
+small : (s : tie.Start) → (s .args .h + 1) * s .args .w ≤ 272
+small s = fits (s .args .w) (s .args .h) (s .pre .0 .width-high) (s .pre .0 .height-high)
 
 add-count : tie.Need-add-count
 add-count c = search needs
@@ -23,14 +23,14 @@ mul-count : tie.Need-mul-count
 mul-count c = search needs
 
 array-borrow-prefix-middle : tie.Need-array-borrow-prefix-middle
-array-borrow-prefix-middle c = small (c .before .before .before .before)
+array-borrow-prefix-middle c = small (c .before .before)
 
 slice-aggregate-pass-through : tie.Need-slice-aggregate-pass-through
-slice-aggregate-pass-through c = sym (length-take-le _ _ (small (c .before .before .before .before .before)))
+slice-aggregate-pass-through c = sym (length-take-le _ _ (small (c .before .before .before)))
 
 pass-through-requires : tie.Need-pass-through-requires
 pass-through-requires c κs =
-    let s = c .before .before .before .before .before .before in
+    let s = c .before .before .before .before in
     (s .pre .0, (s .pre .1, s .pre .2, length-take-le _ _ (small s)))
 
 same-length : tie.Need-same-length

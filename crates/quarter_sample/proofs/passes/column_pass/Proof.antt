@@ -8,21 +8,20 @@ use Rattle.basis.specs.Lists.{tabulate}
 use Rattle.basis.proofs.Bounds.{row-before}
 use Rattle.basis.proofs.Lists.{length-tabulate, laid, laid-none, laid-put, laid-end}
 use Rattle.basis.proofs.Slices.{part-length}
-use Rattle.quarter_sample.specs.declared.Wanted.{Wanted}
 use Rattle.quarter_sample.specs.ToldPasses.{step, columnLine}
 use Rattle.quarter_sample.proofs.passes.column_pass.Statement.{statement}
 use Rattle.quarter_sample.proofs.passes.column_pass.Tie as tie
 
 -- row j of the result, out of `size` rows
-abbrev rowAt : List ℕ → ℕ → Wanted → ℕ → ℕ → ℕ → ℕ → List ℕ
-rowAt src stride wanted fraction w size j = tabulate w (λ i. step (wanted .rc) (wanted .max) fraction (columnLine src stride size i) j)
+abbrev rowAt : List ℕ → ℕ → ℕ → ℕ → ℕ → ℕ → ℕ → ℕ → List ℕ
+rowAt src stride size rc max fraction w j = tabulate w (λ i. step rc max fraction (columnLine src stride size i) j)
 
 abbrev Inv-loop : tie.InvT-loop
-Inv-loop src stride wanted fraction out₀ w size j₀ j-end out j =
-    (j ≤ j-end) × (length out ≡ length out₀) × (out ≡ laid w (rowAt src stride wanted fraction w size) j out₀)
+Inv-loop src stride w h fraction rc max out₀ size j₀ out j =
+    (j ≤ h) × (length out ≡ length out₀) × (out ≡ laid w (rowAt src stride (h + 1) rc max fraction w) j out₀)
 
 abbrev μ-loop : tie.MeasureT-loop
-μ-loop src stride wanted fraction out₀ w size j₀ j-end out j = j-end - j
+μ-loop src stride w h fraction rc max out₀ size j₀ out j = h - j
 
 add-size : tie.Need-add-size Inv-loop μ-loop
 add-size c = omega arith
@@ -31,14 +30,11 @@ loop-holds : tie.Need-loop-holds Inv-loop μ-loop
 loop-holds c = (omega arith, refl, sym (laid-none _ _ (λ j. length-tabulate _ _) _))
 
 abbrev startOf : tie.In-loop Inv-loop μ-loop → tie.Start Inv-loop μ-loop
-startOf c = c .before .before .before .before .before
-
-abbrev wantedOf : tie.In-loop Inv-loop μ-loop → Wanted
-wantedOf c = startOf c .args .wanted
+startOf c = c .before .before .before .before
 
 -- row j of the result lies within it
-inside : (c : tie.In-loop Inv-loop μ-loop) → let w = wantedOf c .width in c .before .loop .j * w + w ≤ wantedOf c .height * w
-inside c = row-before (wantedOf c .width) (c .loop-test .taken)
+inside : (c : tie.In-loop Inv-loop μ-loop) → let a = startOf c .args in c .before .loop .j * a .w + a .w ≤ a .h * a .w
+inside c = row-before (startOf c .args .w) (c .loop-test .taken)
 
 mul-from : tie.Need-mul-from Inv-loop μ-loop
 mul-from c = omega (arith, inside c)
@@ -59,7 +55,7 @@ filter-column-row-requires : tie.Need-filter-column-row-requires Inv-loop μ-loo
 filter-column-row-requires c κs =
     let t = c .before in
     let s = startOf t in
-    let w = wantedOf t .width in
+    let w = s .args .w in
     let l = t .before .loop in
     record {
       narrow = omega (arith, s .pre .narrow, part-length (l .out) (l .j * w) w (omega (arith, inside t)));
@@ -83,12 +79,12 @@ loop-again c =
     let t = c .before .before .before .before in
     let l = t .before in
     let a = startOf t .args in
-    let w = a .wanted .width in (
+    let w = a .w in (
       omega arith,
       omega arith,
       laid-put _ _ (λ j. length-tabulate _ _) (l .loop .j) (a .out .now) (l .loop .out) _ (l .loop .inv .2)
           (c .before .before .filter-column-row .ensures
-          ∙ ap (λ (k : ℕ). rowAt (a .src .now) (a .stride) (a .wanted) (a .fraction) k (a .wanted .height + 1) (l .loop .j))
+          ∙ ap (λ (k : ℕ). rowAt (a .src .now) (a .stride) (a .h + 1) (a .rc) (a .max) (a .fraction) k (l .loop .j))
           (part-length (l .loop .out) (l .loop .j * w) w (omega (arith, inside t)))),
     )
 

@@ -7,29 +7,28 @@ use Rattle.basis.specs.Lists.{tabulate}
 use Rattle.basis.proofs.Bounds.{row-before}
 use Rattle.basis.proofs.Lists.{length-tabulate, laid, laid-none, laid-put, laid-end}
 use Rattle.basis.proofs.Slices.{part-length}
-use Rattle.quarter_sample.specs.declared.Wanted.{Wanted}
 use Rattle.quarter_sample.proofs.passes.copy_rows.Statement.{statement}
 use Rattle.quarter_sample.proofs.passes.copy_rows.Tie as tie
 
 abbrev Inv-loop : tie.InvT-loop
-Inv-loop block out₀ w j₀ j-end out j =
-    (j ≤ j-end) × (length out ≡ length out₀) × (out ≡ laid w (λ j. tabulate w (λ i. getD block (j * (w + 1) + i) 0)) j out₀)
+Inv-loop block w h out₀ j₀ out j =
+    (j ≤ h) × (length out ≡ length out₀) × (out ≡ laid w (λ j. tabulate w (λ i. getD block (j * (w + 1) + i) 0)) j out₀)
 
 abbrev μ-loop : tie.MeasureT-loop
-μ-loop block out₀ w j₀ j-end out j = j-end - j
+μ-loop block w h out₀ j₀ out j = h - j
 
 loop-holds : tie.Need-loop-holds Inv-loop μ-loop
 loop-holds c = (omega arith, refl, sym (laid-none _ _ (λ j. length-tabulate _ _) _))
 
-abbrev wantedOf : tie.In-loop Inv-loop μ-loop → Wanted
-wantedOf c = c .before .before .before .before .args .wanted
+abbrev startOf : tie.In-loop Inv-loop μ-loop → tie.Start Inv-loop μ-loop
+startOf c = c .before .before .before .before
 
 -- row j of the result lies within it, and row j of the block within that
-inside : (c : tie.In-loop Inv-loop μ-loop) → let w = wantedOf c .width in c .before .loop .j * w + w ≤ wantedOf c .height * w
-inside c = row-before (wantedOf c .width) (c .loop-test .taken)
+inside : (c : tie.In-loop Inv-loop μ-loop) → let a = startOf c .args in c .before .loop .j * a .w + a .w ≤ a .h * a .w
+inside c = row-before (startOf c .args .w) (c .loop-test .taken)
 
-inside-block : (c : tie.In-loop Inv-loop μ-loop) → let n = wantedOf c .width + 1 in c .before .loop .j * n + n ≤ wantedOf c .height * n
-inside-block c = row-before (wantedOf c .width + 1) (c .loop-test .taken)
+inside-block : (c : tie.In-loop Inv-loop μ-loop) → let n = startOf c .args .w + 1 in c .before .loop .j * n + n ≤ startOf c .args .h * n
+inside-block c = row-before (startOf c .args .w + 1) (c .loop-test .taken)
 
 add-at : tie.Need-add-at Inv-loop μ-loop
 add-at c = omega arith
@@ -58,7 +57,7 @@ part-copy-straight-end c = omega (arith, inside (c .before))
 copy-straight-requires : tie.Need-copy-straight-requires Inv-loop μ-loop
 copy-straight-requires c κs =
     let t = c .before .before in
-    let w = wantedOf t .width in
+    let w = startOf t .args .w in
     let l = t .before .loop in
     ap length (c .before .part .ensures) ∙ length-tabulate _ _ ∙ sym (part-length (l .out) (l .j * w) w (omega (arith, inside t)))
 

@@ -98,7 +98,7 @@ returns c =
     let c1 = c2 .before in
     let a = c1 .before .before .before .args in
     c .before .before .filter-taps .ensures
-    ∙ rows-step (a .wanted .rc) (a .wanted .max) (a .fraction) (length (a .out .now)) (columnLine (a .src .now) (a .stride) (a .size)) (λ i. a .j) _ _ _ _ _ _ _ _
+    ∙ rows-step (a .rc) (a .max) (a .fraction) (length (a .out .now)) (columnLine (a .src .now) (a .stride) (a .size)) (λ i. a .j) _ _ _ _ _ _ _ _
     (first c1) (c2 .tap-row2 .ensures) (c3 .tap-row3 .ensures) (c4 .tap-row4 .ensures)
     (c5 .tap-row5 .ensures) (c6 .tap-row6 .ensures) (c7 .tap-row7 .ensures) (c8 .tap-row8 .ensures)
 

@@ -97,7 +97,7 @@ returns c =
     let w = length (a .out .now) in
     let taps = line-taps (a .block .now) _ (a .n) (a .j) _ (s .pre .n-low) (s .pre .inside) (s .pre .line-fits) (extend c1 .extend-row .ensures) w in
     c .before .before .filter-taps .ensures
-    ∙ rows-step (a .wanted .rc) (a .wanted .max) (a .fraction) w (λ i. rowLine (a .block .now) (a .n) (a .j)) (λ i. i) _ _ _ _ _ _ _ _
+    ∙ rows-step (a .rc) (a .max) (a .fraction) w (λ i. rowLine (a .block .now) (a .n) (a .j)) (λ i. i) _ _ _ _ _ _ _ _
     (c1 .part .ensures ∙ taps 0 (omega arith)) (c2 .part2 .ensures ∙ taps 1 (omega arith)) (c3 .part3 .ensures ∙ taps 2 (omega arith))
     (c4 .part4 .ensures ∙ taps 3 (omega arith)) (c5 .part5 .ensures ∙ taps 4 (omega arith)) (c6 .part6 .ensures ∙ taps 5 (omega arith))
     (c7 .part7 .ensures ∙ taps 6 (omega arith)) (c8 .part8 .ensures ∙ taps 7 (omega arith))

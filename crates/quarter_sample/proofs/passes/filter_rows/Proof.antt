@@ -8,21 +8,20 @@ use Rattle.basis.proofs.Slices.{part-length}
 use Rattle.basis.specs.Lists.{tabulate}
 use Rattle.basis.proofs.Bounds.{row-before}
 use Rattle.basis.proofs.Lists.{length-tabulate, laid, laid-none, laid-put, laid-end}
-use Rattle.quarter_sample.specs.declared.Wanted.{Wanted}
 use Rattle.quarter_sample.specs.ToldPasses.{step, rowLine}
 use Rattle.quarter_sample.proofs.passes.filter_rows.Statement.{statement}
 use Rattle.quarter_sample.proofs.passes.filter_rows.Tie as tie
 
 -- row j of the result
-abbrev rowAt : List ℕ → Wanted → ℕ → ℕ → ℕ → List ℕ
-rowAt block wanted fraction w j = tabulate w (step (wanted .rc) (wanted .max) fraction (rowLine block (w + 1) j))
+abbrev rowAt : List ℕ → ℕ → ℕ → ℕ → ℕ → ℕ → List ℕ
+rowAt block w rc max fraction j = tabulate w (step rc max fraction (rowLine block (w + 1) j))
 
 abbrev Inv-loop : tie.InvT-loop
-Inv-loop block wanted fraction line₀ out₀ w n j₀ j-end line out j =
-    (j ≤ j-end) × (length line ≡ length line₀) × (length out ≡ length out₀) × (out ≡ laid w (rowAt block wanted fraction w) j out₀)
+Inv-loop block w h fraction rc max line₀ out₀ n j₀ line out j =
+    (j ≤ h) × (length line ≡ length line₀) × (length out ≡ length out₀) × (out ≡ laid w (rowAt block w rc max fraction) j out₀)
 
 abbrev μ-loop : tie.MeasureT-loop
-μ-loop block wanted fraction line₀ out₀ w n j₀ j-end line out j = j-end - j
+μ-loop block w h fraction rc max line₀ out₀ n j₀ line out j = h - j
 
 add-n : tie.Need-add-n Inv-loop μ-loop
 add-n c = omega arith
@@ -33,15 +32,12 @@ loop-holds c = (omega arith, refl, refl, sym (laid-none _ _ (λ j. length-tabula
 abbrev startOf : tie.In-loop Inv-loop μ-loop → tie.Start Inv-loop μ-loop
 startOf c = c .before .before .before .before .before
 
-abbrev wantedOf : tie.In-loop Inv-loop μ-loop → Wanted
-wantedOf c = startOf c .args .wanted
-
 -- row j of the result lies within it, and row j of the block within that
-inside : (c : tie.In-loop Inv-loop μ-loop) → let w = wantedOf c .width in c .before .loop .j * w + w ≤ wantedOf c .height * w
-inside c = row-before (wantedOf c .width) (c .loop-test .taken)
+inside : (c : tie.In-loop Inv-loop μ-loop) → let a = startOf c .args in c .before .loop .j * a .w + a .w ≤ a .h * a .w
+inside c = row-before (startOf c .args .w) (c .loop-test .taken)
 
-inside-block : (c : tie.In-loop Inv-loop μ-loop) → let n = wantedOf c .width + 1 in c .before .loop .j * n + n ≤ wantedOf c .height * n
-inside-block c = row-before (wantedOf c .width + 1) (c .loop-test .taken)
+inside-block : (c : tie.In-loop Inv-loop μ-loop) → let n = startOf c .args .w + 1 in c .before .loop .j * n + n ≤ startOf c .args .h * n
+inside-block c = row-before (startOf c .args .w + 1) (c .loop-test .taken)
 
 mul-from : tie.Need-mul-from Inv-loop μ-loop
 mul-from c = omega (arith, inside c)
@@ -62,7 +58,7 @@ filter-row-requires : tie.Need-filter-row-requires Inv-loop μ-loop
 filter-row-requires c κs =
     let t = c .before .before in
     let s = startOf t in
-    let w = wantedOf t .width in
+    let w = s .args .w in
     let l = t .before .loop in
     record {
       n-low = omega (arith, s .pre .0 .width-low);
@@ -85,13 +81,13 @@ loop-again c =
     let t = c .before .before .before .before .before .before .before in
     let l = t .before in
     let a = startOf t .args in
-    let w = a .wanted .width in (
+    let w = a .w in (
       omega arith,
       omega arith,
       omega arith,
       laid-put _ _ (λ j. length-tabulate _ _) (l .loop .j) (a .out .now) (l .loop .out) _ (l .loop .inv .3)
           (c .before .before .before .before .filter-row .ensures
-          ∙ ap (λ (k : ℕ). tabulate k (step (a .wanted .rc) (a .wanted .max) (a .fraction) (rowLine (a .block .now) (w + 1) (l .loop .j))))
+          ∙ ap (λ (k : ℕ). tabulate k (step (a .rc) (a .max) (a .fraction) (rowLine (a .block .now) (w + 1) (l .loop .j))))
           (part-length (l .loop .out) (l .loop .j * w) w (omega (arith, inside t)))),
     )
 

@@ -4,7 +4,6 @@ use mathlib.Core.List.{List}
 use mathlib.Core.Path.{_≡_, _∙_}
 use lib.Dec.{lit<}
 use borrow.Author.Needs.{needs}
-use Rattle.quarter_sample.specs.declared.Wanted.{Wanted}
 use Rattle.quarter_sample.specs.ToldPasses.{rowsAt, columnsAt, wholeAt, bothAt, placeAt, blockSource}
 use Rattle.quarter_sample.proofs.Sixteen.{last-place}
 use Rattle.quarter_sample.proofs.Blocks.{place-by-steps, whole, across, down}
@@ -12,28 +11,38 @@ use Rattle.quarter_sample.proofs.passes.interpolate_place.Statement.{st
 use Rattle.quarter_sample.proofs.passes.interpolate_place.Tie as tie
 
 -- two steps at the fractions of an arm are its place
-rule : (s : tie.Start) (fx fy : ℕ) {out : List ℕ} → fx < 4 → fy < 4 → let a = s .args in
-    a .fractions ≡ fx + 4 * fy → out ≡ bothAt (a .wanted) fx fy (a .block .now) → out ≡ placeAt (a .wanted) (a .fractions) (a .block .now)
+rule : (s : tie.Start) (fx fy : ℕ) {out : List ℕ} → fx < 4 → fy < 4 → let a = s .args in a .fractions ≡ fx + 4 * fy
+    → out ≡ bothAt (a .w) (a .h) (a .rc) (a .max) fx fy (a .block .now)
+    → out ≡ placeAt (a .w) (a .h) (a .rc) (a .max) (a .fractions) (a .block .now)
 rule s fx fy {out} p q e o =
     let a = s .args in
-    place-by-steps (a .wanted .rc) (a .wanted .max) (a .wanted .width) (a .wanted .height) fx fy (a .fractions) (blockSource (a .wanted) (a .block .now)) out p q e o
+    place-by-steps (a .rc) (a .max) (a .w) (a .h) fx fy (a .fractions) (blockSource (a .w) (a .h) (a .block .now)) out p q e o
 
 -- one pass alone, and the copy, are two steps of which one or both stay
 module _ (s : tie.Start) where
   abbrev block : List ℕ
   block = s .args .block .now
 
-  abbrev wanted : Wanted
-  wanted = s .args .wanted
+  abbrev w : ℕ
+  w = s .args .w
 
-  whole-is : wholeAt wanted block ≡ bothAt wanted 0 0 block
-  whole-is = whole (wanted .rc) (wanted .max) (wanted .width) (wanted .height) block
+  abbrev h : ℕ
+  h = s .args .h
 
-  across-is : (fx : ℕ) → rowsAt wanted fx block ≡ bothAt wanted fx 0 block
-  across-is = across (wanted .rc) (wanted .max) (wanted .width) (wanted .height) block
+  abbrev rc : ℕ
+  rc = s .args .rc
 
-  down-is : (fy : ℕ) → columnsAt wanted fy block (wanted .width + 1) ≡ bothAt wanted 0 fy block
-  down-is = down (wanted .rc) (wanted .max) (wanted .width) (wanted .height) block
+  abbrev max : ℕ
+  max = s .args .max
+
+  whole-is : wholeAt w h block ≡ bothAt w h rc max 0 0 block
+  whole-is = whole rc max w h block
+
+  across-is : (fx : ℕ) → rowsAt w h rc max fx block ≡ bothAt w h rc max fx 0 block
+  across-is = across rc max w h block
+
+  down-is : (fy : ℕ) → columnsAt w h rc max fy block (w + 1) ≡ bothAt w h rc max 0 fy block
+  down-is = down rc max w h block
 
 copy-rows-requires : tie.Need-copy-rows-requires
 copy-rows-requires c κs = search needs
@@ -129,8 +138,8 @@ same-length-5 c = search needs
 
 returns-5 : tie.Need-returns-5
 returns-5 c =
-    let s = c .before .before .before .before .before .before .before .before in
-    rule s 0 1 (lit< tt) (lit< tt) (c .before .before .before .before .before .match .keys5) (c .before .before .column-pass .ensures ∙ down-is s 1)
+    let s = c .before .before .before .before .before .before .before in
+    rule s 0 1 (lit< tt) (lit< tt) (c .before .before .before .before .match .keys5) (c .before .before .column-pass .ensures ∙ down-is s 1)
 
 same-length-6 : tie.Need-same-length-6
 same-length-6 c = search needs
@@ -161,8 +170,8 @@ same-length-9 c = search needs
 
 returns-9 : tie.Need-returns-9
 returns-9 c =
-    let s = c .before .before .before .before .before .before .before .before in
-    rule s 0 2 (lit< tt) (lit< tt) (c .before .before .before .before .before .match .keys9) (c .before .before .column-pass2 .ensures ∙ down-is s 2)
+    let s = c .before .before .before .before .before .before .before in
+    rule s 0 2 (lit< tt) (lit< tt) (c .before .before .before .before .match .keys9) (c .before .before .column-pass2 .ensures ∙ down-is s 2)
 
 same-length-10 : tie.Need-same-length-10
 same-length-10 c = search needs
@@ -193,8 +202,8 @@ same-length-13 c = search needs
 
 returns-13 : tie.Need-returns-13
 returns-13 c =
-    let s = c .before .before .before .before .before .before .before .before in
-    rule s 0 3 (lit< tt) (lit< tt) (c .before .before .before .before .before .match .keys13) (c .before .before .column-pass3 .ensures ∙ down-is s 3)
+    let s = c .before .before .before .before .before .before .before in
+    rule s 0 3 (lit< tt) (lit< tt) (c .before .before .before .before .match .keys13) (c .before .before .column-pass3 .ensures ∙ down-is s 3)
 
 same-length-14 : tie.Need-same-length-14
 same-length-14 c = search needs

@@ -16,7 +16,7 @@ slice-aggregate-filter-rows : tie.Need-slice-aggregate-filter-rows
 slice-aggregate-filter-rows c = sym (length-take-le _ _ (omega arith))
 
 filter-rows-requires : tie.Need-filter-rows-requires
-filter-rows-requires c κs = (c .before .before .before .before .before .pre, length-take-le _ _ (omega arith))
+filter-rows-requires c κs = (c .before .before .before .before .pre, length-take-le _ _ (omega arith))
 
 same-length : tie.Need-same-length
 same-length c = search needs

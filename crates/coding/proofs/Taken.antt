@@ -1,4 +1,4 @@
--- What `coding` answers to a macroblock's residual that it does not refuse. Assumes nothing.
+-- What the two entries on a macroblock answer where they do not refuse it. Assumes nothing.
 use Prim.Native.Nat.{ℕ}
 use mathlib.Core.Bool.{_&&_}
 use mathlib.Core.List.{List}
