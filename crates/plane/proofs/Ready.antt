@@ -46,6 +46,12 @@ sized-is g e =
       high-t = between-high (g .width) 8192 (g .stride) t;
     }
 
+-- the last row starts where a product still fits
+pub last-fits : (g : Geometry) → Sized g → (g .height - 1) * g .stride ≤ 4096 * 8192
+last-fits g s =
+    let h : g .height - 1 ≤ 4096 = omega (arith, s .high-h) in
+    product-le h (s .high-t)
+
 -- a reference that is not refused: its sizes, and its samples hold it
 pub record Usable (s : List ℕ) (g : Geometry) : Type 0 where
   pub within : Sized g

@@ -1,5 +1,5 @@
 -- What holds of a source that is not refused, and what its tests by division tell. Assumes nothing.
-use Prim.Native.Nat.{ℕ, _+_, _-_, _*_, _/_, _≤_, _<_}
+use Prim.Native.Nat.{ℕ, _-_, _*_, _/_, _≤_, _<_}
 use native.Mathlib.Omega.{arith}
 use native.Mathlib.Nat.{le-div-iff-mul-le, mul-comm, zero-mul}
 use mathlib.Core.Bool.{Bool, true, _&&_}

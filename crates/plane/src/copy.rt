@@ -72,14 +72,10 @@ fn copy_plane_row(samples: &[u8], geometry: Geometry, at: Point, j: usize, out: 
     copy_row(&samples[start..end], at.x, out);
 }
 
-// A block without columns has no samples: none of its rows is gone through, however many there are.
 pub fn copy_rows(samples: &[u8], geometry: Geometry, at: Point, w: usize, h: usize, out: &mut [u8])
     requires { ⌜ Held (planeOf (now samples) geometry) × (length (now out) ≡ h * w) ⌝ }
     ensures { λ _. ⌜ now (out .exit) ≡ copiedBlock (planeOf (now (samples .entry)) geometry) at w h ⌝ }
 {
-    if w == 0 {
-        return;
-    }
     for j in 0..h {
         let from = j * w;
         let to = from + w;

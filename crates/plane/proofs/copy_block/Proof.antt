@@ -1,7 +1,9 @@
 -- `plane::copy_block` meets its contract. Assumes nothing.
-use native.Mathlib.Nat.{mul-comm}
-use mathlib.Core.Path.{_≡_, refl, sym, _∙_}
+use Prim.Native.Nat.{ℕ, _*_}
+use native.Mathlib.Nat.{mul-comm, zero-mul}
+use mathlib.Core.Path.{_≡_, refl, sym, ap, _∙_}
 use lib.ListN.{length}
+use Rattle.basis.proofs.Lists.{length-raster, empty-same}
 use Rattle.refusal.specs.declared.Reply.{Reply}
 use Rattle.refusal.specs.declared.Reply.the-variants.{Done}
 use Rattle.refusal.specs.Reply.{andThen}
@@ -42,8 +44,8 @@ enum-told c = search needs
 
 copy-rows-requires : tie.Need-copy-rows-requires
 copy-rows-requires c κs =
-    let s = c .before .before .before .before .before .before .before .before in
-    let e = ready (c .before) in (
+    let s = c .before .before .before .before .before .before .before .before .before in
+    let e = ready (c .before .before) in (
       usable _ _ (first-done (referenceOf s) (lengthOf s) e) .hold,
       length-is _ _ _ (then-done (referenceOf s) (lengthOf s) e) ∙ mul-comm (s .args .w) (s .args .h),
     )
@@ -57,7 +59,20 @@ same-length c = search needs
 
 returns-2 : tie.Need-returns-2
 unfolding copyReply
-returns-2 c = (sym (ready (c .before .before .before .before)), c .before .before .copy-rows .ensures)
+returns-2 c = (sym (ready (c .before .before .before .before .before)), c .before .before .copy-rows .ensures)
+
+-- a block without columns
+returns-3 : tie.Need-returns-3
+unfolding copyReply
+returns-3 c =
+    let s = c .before .before .before .before .before .before .before .before in
+    let e = ready (c .before) in
+    let w = s .args .w in
+    let h = s .args .h in
+    let none : w * h ≡ 0 = ap (λ (n : ℕ). n * h) (c .if1 .left) ∙ zero-mul h in (
+      sym e,
+      empty-same _ _ (length-is _ _ _ (then-done (referenceOf s) (lengthOf s) e) ∙ none) (length-raster _ _ _ ∙ mul-comm h w ∙ none),
+    )
 
 pub copy-block-spec : {M : Type 1} → statement M
 copy-block-spec =
@@ -71,4 +86,5 @@ copy-block-spec =
     copy-rows-requires
     returns
     same-length
-    returns-2)
+    returns-2
+    returns-3)

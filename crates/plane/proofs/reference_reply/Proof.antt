@@ -1,39 +1,56 @@
 -- `plane::reference_reply` meets its contract. Assumes nothing.
-use mathlib.Core.Path.{sym, _∙_}
-use Rattle.plane.specs.Reference.{referenceReply}
+use Prim.Native.Nat.{_-_}
+use native.Mathlib.Omega.{arith}
+use mathlib.Core.Bool.{true}
+use mathlib.Core.Path.{_≡_, sym, _∙_}
+use borrow.Author.Tests.{not-true, not-false}
+use Rattle.plane.specs.Reference.{referenceSizeReply, referenceBytesReply, referenceReply, sized}
+use Rattle.plane.proofs.Ready.{Sized, sized-is, last-fits}
 use borrow.Author.Needs.{needs}
 use Rattle.plane.proofs.reference_reply.Statement.{statement}
 use Rattle.plane.proofs.reference_reply.Tie as tie
 
-reference-size-reply-requires : tie.Need-reference-size-reply-requires
-reference-size-reply-requires c κs = search needs
+fits : (c : tie.Else1) → sized (c .before .before .args .geometry) ≡ true
+fits c = sym (c .before .is-sized .ensures) ∙ not-false _ (c .if1 .left)
 
-enum-known-why : tie.Need-enum-known-why
-enum-known-why c = search needs
+within : (c : tie.Else1) → Sized (c .before .before .args .geometry)
+within c = sized-is _ (fits c)
 
-enum-told : tie.Need-enum-told
-enum-told c = search needs
-
-reference-bytes-reply-requires : tie.Need-reference-bytes-reply-requires
-reference-bytes-reply-requires c κs = search needs
+is-sized-requires : tie.Need-is-sized-requires
+is-sized-requires c κs = search needs
 
 returns : tie.Need-returns
-unfolding referenceReply
-returns c = rw (sym (c .before .before .before .reference-size-reply .ensures) ∙ c .before .why .given .1)
+unfolding referenceReply referenceSizeReply
+returns c = rw (sym (c .before .is-sized .ensures) ∙ not-true _ (c .if1 .taken))
+
+sub-unless : tie.Need-sub-unless
+sub-unless c = within c .low-h
+
+mul-unless : tie.Need-mul-unless
+mul-unless c = omega (arith, last-fits _ (within c))
+
+sub-unless-2 : tie.Need-sub-unless-2
+sub-unless-2 c = within c .low-w
+
+add-unless : tie.Need-add-unless
+add-unless c = omega (arith, last-fits _ (within c), within c .high-w)
+
+unless-requires : tie.Need-unless-requires
+unless-requires c κs = search needs
 
 returns-2 : tie.Need-returns-2
-unfolding referenceReply
-returns-2 c =
-    rw (sym (c .before .before .before .reference-size-reply .ensures) ∙ c .before .enum-told .given .1)
-    (c .reference-bytes-reply .ensures)
+unfolding referenceReply referenceSizeReply referenceBytesReply
+returns-2 c = rw (fits (c .before)) (c .unless .ensures)
 
 pub reference-reply-spec : {M : Type 1} → statement M
 reference-reply-spec =
     tie.close
     (tie.spec
-    reference-size-reply-requires
-    enum-known-why
-    enum-told
-    reference-bytes-reply-requires
+    is-sized-requires
     returns
+    sub-unless
+    mul-unless
+    sub-unless-2
+    add-unless
+    unless-requires
     returns-2)

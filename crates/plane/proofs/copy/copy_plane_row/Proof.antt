@@ -1,5 +1,5 @@
 -- `plane::copy::copy_plane_row` meets its contract. Assumes nothing.
-use Prim.Native.Nat.{_+_, _-_, _*_, _≤_}
+use Prim.Native.Nat.{_+_, _*_, _≤_}
 use native.Mathlib.Omega.{arith}
 use mathlib.Core.Path.{_≡_, ap, _∙_}
 use lib.IntN.{ℤ, pos, _+ℤ_}

@@ -1,7 +1,6 @@
 -- `plane::copy::copy_rows` meets its contract. Assumes nothing.
 use Prim.Native.Nat.{ℕ, _+_, _-_, _*_, _≤_}
 use native.Mathlib.Omega.{arith}
-use native.Mathlib.Nat.{mul-zero}
 use mathlib.Core.Path.{_≡_, refl, sym, ap, _∙_}
 use lib.ListN.{length, length-take, length-drop}
 use Rattle.basis.specs.Lists.{tabulate}
@@ -10,7 +9,7 @@ use Rattle.plane.specs.declared.Point.{Point}
 use Rattle.plane.specs.Plane.{planeOf, copied}
 use mathlib.Core.List.{List}
 use Rattle.basis.proofs.Bounds.{row-before}
-use Rattle.basis.proofs.Lists.{length-tabulate, length-raster, empty-same, laid, laid-none, laid-put, laid-end}
+use Rattle.basis.proofs.Lists.{length-tabulate, laid, laid-none, laid-put, laid-end}
 use Rattle.plane.proofs.copy.copy_rows.Statement.{statement}
 use Rattle.plane.proofs.copy.copy_rows.Tie as tie
 
@@ -25,19 +24,12 @@ Inv-loop samples geometry at w h out₀ j₀ out j =
 abbrev μ-loop : tie.MeasureT-loop
 μ-loop samples geometry at w h out₀ j₀ out j = h - j
 
--- a block without columns
-returns : tie.Need-returns Inv-loop μ-loop
-returns c =
-    let s = c .before .before .before in
-    let none : s .args .h * s .args .w ≡ 0 = ap (λ (n : ℕ). s .args .h * n) (c .if1 .taken) ∙ mul-zero (s .args .h) in
-    empty-same _ _ (s .pre .1 ∙ none) (length-raster _ _ _ ∙ none)
-
 loop-holds : tie.Need-loop-holds Inv-loop μ-loop
 loop-holds c = (omega arith, refl, sym (laid-none _ _ (λ j. length-tabulate _ _) _))
 
 -- row j of the block lies within it
-inside : (c : tie.In-loop Inv-loop μ-loop) → let a = c .before .before .before .before .before .args in c .before .loop .j * a .w + a .w ≤ a .h * a .w
-inside c = row-before (c .before .before .before .before .before .args .w) (c .loop-test .taken)
+inside : (c : tie.In-loop Inv-loop μ-loop) → let a = c .before .before .before .before .args in c .before .loop .j * a .w + a .w ≤ a .h * a .w
+inside c = row-before (c .before .before .before .before .args .w) (c .loop-test .taken)
 
 mul-from : tie.Need-mul-from Inv-loop μ-loop
 mul-from c = omega (arith, inside c)
@@ -55,7 +47,7 @@ part-copy-plane-row-end : tie.Need-part-copy-plane-row-end Inv-loop μ-loop
 part-copy-plane-row-end c = omega (arith, inside c)
 
 copy-plane-row-requires : tie.Need-copy-plane-row-requires Inv-loop μ-loop
-copy-plane-row-requires c κs = c .before .before .before .before .before .before .pre .0
+copy-plane-row-requires c κs = c .before .before .before .before .before .pre .0
 
 add-j : tie.Need-add-j Inv-loop μ-loop
 add-j c = omega arith
@@ -66,7 +58,7 @@ loop-less c = omega arith
 loop-again : tie.Need-loop-again Inv-loop μ-loop
 loop-again c =
     let l = c .before .before .before .before .before in
-    let s = l .before .before .before .before in (
+    let s = l .before .before .before in (
       omega arith,
       omega arith,
       laid-put _ _ (λ j. length-tabulate _ _) (l .loop .j) (s .args .out .now) (l .loop .out) _ (l .loop .inv .2)
@@ -78,8 +70,8 @@ loop-again c =
 same-length : tie.Need-same-length Inv-loop μ-loop
 same-length c = omega arith
 
-returns-2 : tie.Need-returns-2 Inv-loop μ-loop
-returns-2 c = laid-end _ _ (λ j. length-tabulate _ _) _ _ _ _ (c .before .loop .inv .2) (omega arith) (omega arith)
+returns : tie.Need-returns Inv-loop μ-loop
+returns c = laid-end _ _ (λ j. length-tabulate _ _) _ _ _ _ (c .before .loop .inv .2) (omega arith) (omega arith)
 
 pub copy-rows-spec : {M : Type 1} → statement M
 copy-rows-spec =
@@ -87,7 +79,6 @@ copy-rows-spec =
     (tie.spec
     Inv-loop
     μ-loop
-    returns
     loop-holds
     mul-from
     add-to
@@ -99,4 +90,4 @@ copy-rows-spec =
     loop-less
     loop-again
     same-length
-    returns-2)
+    returns)
