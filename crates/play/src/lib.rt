@@ -104,6 +104,8 @@ pub fn play(input: i32) -> bool {
 
 // For a program whose main has an exit status: 0 where all that was to be printed is written, else 1.
 #[no_mangle]
-pub extern "C" fn hencouch_play(input: i32) -> u8 {
+pub extern "C" fn hencouch_play(input: i32) -> u8
+    ensures { λ r. ⌜ r ≤ 1 ⌝ }
+{
     if play(input) { 0 } else { 1 }
 }
