@@ -68,6 +68,83 @@ uint8_t hencouch_interpolate_block_qpel_into(
     uint8_t *out, size_t out_len);
 
 /*
+ * One sample by half-sample interpolation: from a half a sample to the right where half_x is not 0,
+ * half a sample down where half_y is not 0. b stands to the right of a, c and d below them. Only the
+ * low bit of rounding counts. Never refused.
+ */
+uint8_t hencouch_interpolate_pixel(
+    uint8_t a, uint8_t b, uint8_t c, uint8_t d,
+    uint8_t half_x, uint8_t half_y, uint8_t rounding, uint8_t *sample);
+
+/*
+ * A vector's horizontal or vertical, in half samples, as whole samples, rounded down, and 1 where
+ * half a sample is left, 0 where none is; or in quarter samples, as whole samples, rounded down, and
+ * 0 to 3 quarters. Never refused.
+ */
+uint8_t hencouch_split_half_pel(int32_t mv, int32_t *whole, uint8_t *half);
+uint8_t hencouch_split_quarter_pel(int32_t mv, int32_t *whole, uint8_t *fraction);
+
+/*
+ * The reference's sample at column x and row y, both clamped into it.
+ *
+ * Refused:
+ *    4, 5  as above
+ */
+uint8_t hencouch_fetch_clamped(
+    const uint8_t *samples, size_t samples_len, size_t width, size_t height, size_t stride,
+    int32_t x, int32_t y, uint8_t *sample);
+
+/*
+ * The reference's samples from column x and row y on, block_w columns and block_h rows of any number,
+ * row by row; coordinates outside it are clamped into it.
+ *
+ * Refused:
+ *    4, 5  as above
+ *   12  out_len not block_w * block_h
+ */
+uint8_t hencouch_copy_block(
+    const uint8_t *samples, size_t samples_len, size_t width, size_t height, size_t stride,
+    int32_t x, int32_t y, size_t block_w, size_t block_h, uint8_t *out, size_t out_len);
+
+/*
+ * Predicts a block's luma by half-sample interpolation in mode 0, by quarter-sample interpolation in
+ * mode 1. bits_per_pixel counts in mode 1 only.
+ *
+ * Refused:
+ *    2  mode neither 0 nor 1
+ *    3  mode 1, bits_per_pixel not 1..8
+ *    4, 5  as above
+ *    8  origin_x or origin_y outside -4096..4096, or mv_x or mv_y outside -2048..2047
+ *   12  out_len not block_w * block_h
+ *   14  block_w or block_h neither 8 nor 16
+ */
+uint8_t hencouch_predict_luma_block(
+    const uint8_t *samples, size_t samples_len, size_t width, size_t height, size_t stride,
+    uint32_t mode, uint32_t bits_per_pixel,
+    int32_t mv_x, int32_t mv_y, int32_t origin_x, int32_t origin_y,
+    size_t block_w, size_t block_h, uint8_t rounding, uint8_t *out, size_t out_len);
+
+/*
+ * The same for the 16 x 16 luma samples of a macroblock whose corner is at origin_x, origin_y: by one
+ * vector, or by four, one for each of its 8 x 8 blocks, 0 and 1 above 2 and 3. vectors holds each
+ * one's horizontal, then vertical. Each block is predicted by itself, as from a copy of its own.
+ *
+ * Refused:
+ *    2, 3, 4, 5, 8  as above, 8 for each block's vector and own corner
+ *   12  out_len not 256
+ */
+uint8_t hencouch_predict_luma_macroblock(
+    const uint8_t *samples, size_t samples_len, size_t width, size_t height, size_t stride,
+    uint32_t mode, uint32_t bits_per_pixel,
+    int32_t mv_x, int32_t mv_y, int32_t origin_x, int32_t origin_y,
+    uint8_t rounding, uint8_t *out, size_t out_len);
+uint8_t hencouch_predict_luma_macroblock_4mv(
+    const uint8_t *samples, size_t samples_len, size_t width, size_t height, size_t stride,
+    uint32_t mode, uint32_t bits_per_pixel,
+    const int32_t vectors[8], int32_t origin_x, int32_t origin_y,
+    uint8_t rounding, uint8_t *out, size_t out_len);
+
+/*
  * The 8 x 8 forward transform of 64 residuals, eight to a row, at 8 bits: doubles, rows, then
  * columns; coefficients rounded to nearest, halves away from zero, cut to -2048..2047.
  *
@@ -127,6 +204,31 @@ uint8_t hencouch_inverse_scan(
 uint8_t hencouch_levels_to_events(
     const int32_t *levels, size_t levels_len, uint8_t *lasts, size_t lasts_len,
     uint8_t *runs, size_t runs_len, int32_t *out_levels, size_t out_levels_len, uint8_t *count);
+
+/*
+ * The number of the scan of an inter block, to *scan: 1 where interlaced and alternate_scan are both
+ * not 0, else 2. Never refused.
+ */
+uint8_t hencouch_inter_scan(uint8_t interlaced, uint8_t alternate_scan, uint32_t *scan);
+
+/*
+ * The source picture's samples of the macroblock at column and row, which count macroblocks: 16 x 16
+ * of luma, or 8 x 8 of a chroma plane, row by row; past the right or bottom edge the last column or
+ * row is repeated. width and height are luma's for both. Luma is width x height samples, chroma half
+ * as many, rounded up, each way, row by row.
+ *
+ * Refused:
+ *    6  width or height not 1..4096
+ *    7  y_len or chroma_len below the samples of its plane
+ *    8  column or row at or above width or height over 16, rounded up
+ *   12  out_len not 256 for luma, not 64 for chroma
+ */
+uint8_t hencouch_source_luma_block(
+    const uint8_t *y, size_t y_len, size_t width, size_t height,
+    size_t column, size_t row, uint8_t *out, size_t out_len);
+uint8_t hencouch_source_chroma_block(
+    const uint8_t *chroma, size_t chroma_len, size_t width, size_t height,
+    size_t column, size_t row, uint8_t *out, size_t out_len);
 
 /*
  * The motion vector of the macroblock at column and row, which count macroblocks. The source is
@@ -275,6 +377,12 @@ uint8_t hencouch_code_macroblock(
  *    6  width or height not 1..4096
  */
 uint8_t hencouch_open(size_t width, size_t height, uint64_t run[5]);
+
+/*
+ * Where the run's next macroblock stands, column to place[0] and row to place[1]: run[2] % C and
+ * run[2] / C, C being run[0] over 16, rounded up; run[2] and 0 where C is 0. Never refused.
+ */
+uint8_t hencouch_next_place(const uint64_t run[5], uint64_t place[2]);
 
 /*
  * Searches for the run's next macroblock and codes its residual, as hencouch_code_macroblock does

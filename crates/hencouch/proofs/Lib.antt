@@ -1,3 +1,4 @@
+pub mod Fetching
 pub mod Places
 pub mod Records
 pub mod Replies

@@ -1,14 +1,22 @@
 -- Structs from the numbers that C hands over.
-use Prim.Native.Nat.{ℕ}
-use mathlib.Core.Bool.{Bool, not}
+use Prim.Native.Nat.{ℕ, _+_, _*_}
+use mathlib.Core.Bool.{Bool, not, cond, _||_}
+use mathlib.Core.List.{List}
 use lib.Dec.{eqb}
-use lib.IntN.{ℤ}
+use lib.IntN.{ℤ, pos}
+use lib.ListN.{getD}
+use Rattle.refusal.specs.declared.Refusal.the-variants.{Mode}
+use Rattle.refusal.specs.declared.Reply.{Reply}
+use Rattle.refusal.specs.declared.Reply.the-variants.{Done}
+use Rattle.refusal.specs.Reply.{unless}
 use Rattle.record.specs.declared.MotionVector.{MotionVector}
 use Rattle.plane.specs.declared.Geometry.{Geometry}
 use Rattle.plane.specs.declared.Point.{Point}
 use Rattle.plane.specs.declared.Site.{Site}
 use Rattle.plane.specs.declared.SourceSize.{SourceSize}
 use Rattle.plane.specs.declared.MacroblockPlace.{MacroblockPlace}
+use Rattle.prediction.specs.declared.PvopMbMotion.{PvopMbMotion}
+use Rattle.prediction.specs.declared.PvopMbMotion.the-variants.{FourMv}
 use Rattle.macroblock.specs.declared.Settings.{Settings}
 
 abbrev pub geometryOf : ℕ → ℕ → ℕ → Geometry
@@ -16,6 +24,10 @@ geometryOf width height stride = record { width = width; height = height; stride
 
 abbrev pub vectorOf : ℤ → ℤ → MotionVector
 vectorOf x y = record { x = x; y = y }
+
+-- vector k of those that follow each other in a list
+abbrev pub pairOf : List ℤ → ℕ → MotionVector
+pairOf l k = vectorOf (getD l (2 * k) (pos 0)) (getD l (2 * k + 1) (pos 0))
 
 abbrev pub pointOf : ℤ → ℤ → Point
 pointOf x y = record { x = x; y = y }
@@ -30,9 +42,21 @@ sizeOf width height = record { width = width; height = height }
 abbrev pub macroblockAt : ℕ → ℕ → MacroblockPlace
 macroblockAt column row = record { column = column; row = row }
 
--- any number but 0 is the first method
-abbrev pub firstMethod : ℕ → Bool
-firstMethod n = not (eqb n 0)
+-- any number but 0 is yes: the first method, a half, interlaced
+abbrev pub isSet : ℕ → Bool
+isSet n = not (eqb n 0)
+
+-- yes is written as 1
+abbrev pub flagOf : Bool → ℕ
+flagOf b = cond b 1 0
+
+-- four vectors of eight numbers: each one's horizontal, then vertical
+abbrev pub fourMotion : List ℤ → PvopMbMotion
+fourMotion l = FourMv (pairOf l 0) (pairOf l 1) (pairOf l 2) (pairOf l 3)
+
+-- 2: a mode that is neither 0, half samples, nor 1, quarter samples
+unfoldable pub modeNumberReply : ℕ → Reply
+modeNumberReply mode = unless (eqb mode 0 || eqb mode 1) Mode Done
 
 abbrev pub macroblockSettings : ℕ → ℕ → ℕ → ℕ → ℕ → ℕ → ℕ → Settings
 macroblockSettings fcode mode bpp quantiser first vectors scan =
@@ -41,7 +65,7 @@ macroblockSettings fcode mode bpp quantiser first vectors scan =
       mode = mode;
       bpp = bpp;
       quantiser = quantiser;
-      «first_method» = firstMethod first;
+      «first_method» = isSet first;
       vectors = vectors;
       scan = scan;
     }

@@ -2,6 +2,7 @@
 use Prim.Native.Nat.{ℕ}
 use mathlib.Core.List.{List, [], _∷_}
 use lib.ListN.{getD}
+use Rattle.plane.specs.declared.MacroblockPlace.{MacroblockPlace}
 use Rattle.picture.specs.declared.Run.{Run}
 use Rattle.picture.specs.declared.Totals.{Totals}
 use Rattle.hencouch.specs.Numbers.{sizeOf}
@@ -12,6 +13,10 @@ runOf l = record { size = sizeOf (getD l 0 0) (getD l 1 0); macroblocks = getD l
 
 abbrev pub runNumbers : Run → List ℕ
 runNumbers r = r .size .width ∷ r .size .height ∷ r .macroblocks ∷ r .events ∷ r .sums ∷ []
+
+-- column, then row
+abbrev pub placeNumbers : MacroblockPlace → List ℕ
+placeNumbers at = at .column ∷ at .row ∷ []
 
 abbrev pub totalsNumbers : Totals → List ℕ
 totalsNumbers t = t .macroblocks ∷ t .events ∷ t .sums ∷ []

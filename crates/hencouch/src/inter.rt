@@ -8,7 +8,7 @@ ghost use Rattle.coding.specs.Residual.{samples, sourceOf, residualOf};
 ghost use Rattle.coding.specs.Coding.{quantisingOf, countOf, countsOf, blockAreas, areasOf, lumaPattern, chromaPattern};
 ghost use Rattle.coding.specs.Reply.{residualReply, codingReply};
 ghost use Rattle.macroblock.specs.Activities.{intraActivity};
-ghost use Rattle.hencouch.specs.Numbers.{sizeOf, macroblockAt, firstMethod};
+ghost use Rattle.hencouch.specs.Numbers.{sizeOf, macroblockAt, isSet};
 ghost use Rattle.hencouch.specs.Whole.{patternsArea};
 use coding::Counted;
 use macroblock::Activity;
@@ -113,7 +113,7 @@ pub extern "C" fn hencouch_quantise_inter_block(
     count: &mut u8,
 ) -> u8
     ensures { λ r. ⌜ (
-        let by = quantisingOf quantiser (firstMethod «first_method») (now (weights .entry)) scan in
+        let by = quantisingOf quantiser (isSet «first_method») (now (weights .entry)) scan in
         let block = now (residual .entry) in
         let reply = codingReply 64 block by (length (now (lasts .entry))) (length (now (runs .entry))) (length (now (levels .entry))) in
         let old = areas (now (lasts .entry)) (now (runs .entry)) (now (levels .entry)) in
@@ -123,7 +123,7 @@ pub extern "C" fn hencouch_quantise_inter_block(
         × (now (count .exit) ≡ done reply (countOf by block) (now (count .entry)))
         ) ⌝ }
 {
-    let first = crate::numbers::first_method_of(first_method);
+    let first = crate::numbers::is_set(first_method);
     let told = coding::quantise_inter_block(
         residual,
         quantiser,
@@ -151,7 +151,7 @@ pub extern "C" fn hencouch_quantise_inter_residual(
     counts: &mut [u8; 6],
 ) -> u8
     ensures { λ r. ⌜ (
-        let by = quantisingOf quantiser (firstMethod «first_method») (now (weights .entry)) scan in
+        let by = quantisingOf quantiser (isSet «first_method») (now (weights .entry)) scan in
         let all = now (residual .entry) in
         let reply = codingReply 384 all by (length (now (lasts .entry))) (length (now (runs .entry))) (length (now (levels .entry))) in
         let old = areas (now (lasts .entry)) (now (runs .entry)) (now (levels .entry)) in
@@ -161,7 +161,7 @@ pub extern "C" fn hencouch_quantise_inter_residual(
         × (now (counts .exit) ≡ done reply (countsOf by all) (now (counts .entry)))
         ) ⌝ }
 {
-    let first = crate::numbers::first_method_of(first_method);
+    let first = crate::numbers::is_set(first_method);
     let told = coding::quantise_inter_residual(
         residual,
         quantiser,

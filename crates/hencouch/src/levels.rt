@@ -5,9 +5,9 @@ ghost use Rattle.refusal.specs.Number.{codeOf};
 ghost use Rattle.refusal.specs.Reply.{done};
 ghost use Rattle.quantise.specs.Block.{blockLevels, secondInverse, blockInverse, quantiseReply, inverseReply};
 ghost use Rattle.scan.specs.Event.{eventsOf, lastsArea, runsArea, levelsArea};
-ghost use Rattle.scan.specs.Grid.{gridOf, scanned, unscanned};
+ghost use Rattle.scan.specs.Grid.{gridOf, interScan, scanned, unscanned};
 ghost use Rattle.scan.specs.Reply.{scanReply, eventsReply};
-ghost use Rattle.hencouch.specs.Numbers.{firstMethod};
+ghost use Rattle.hencouch.specs.Numbers.{isSet};
 
 // 10, 11, 12, 13. Any first_method but 0 is the first method.
 #[no_mangle]
@@ -19,13 +19,13 @@ pub extern "C" fn hencouch_quantise_block(
     out: &mut [i32],
 ) -> u8
     ensures { λ r. ⌜ (
-        let first = firstMethod «first_method» in
+        let first = isSet «first_method» in
         let reply = quantiseReply (now (coefficients .entry)) quantiser first (now (weights .entry)) (length (now (out .entry))) in
         let block = blockLevels first quantiser (now (weights .entry)) (now (coefficients .entry)) in
         (r ≡ codeOf reply) × (now (out .exit) ≡ done reply block (now (out .entry)))
         ) ⌝ }
 {
-    let first = crate::numbers::first_method_of(first_method);
+    let first = crate::numbers::is_set(first_method);
     let reply = quantise::quantise_block(coefficients, quantiser, first, weights, out);
     refusal::code(reply)
 }
@@ -88,4 +88,16 @@ pub extern "C" fn hencouch_levels_to_events(
 {
     let told = scan::levels_to_events(levels, lasts, runs, out_levels);
     crate::areas::write_count(told, count)
+}
+
+// The scan number of an inter block's scan: any number but 0 is yes. Never refused.
+#[no_mangle]
+pub extern "C" fn hencouch_inter_scan(interlaced: u8, alternate_scan: u8, scan: &mut u32) -> u8
+    ensures { λ r. ⌜ r ≡ 0 ⌝ }
+    ensures { λ _. ⌜ now (scan .exit) ≡ interScan (isSet interlaced) (isSet «alternate_scan») ⌝ }
+{
+    let fields = crate::numbers::is_set(interlaced);
+    let alternate = crate::numbers::is_set(alternate_scan);
+    *scan = scan::inter_scan(fields, alternate);
+    0
 }

@@ -7,11 +7,12 @@ ghost use Rattle.reader.specs.Handed.{areas};
 ghost use Rattle.macroblock.specs.Request.{request};
 ghost use Rattle.picture.specs.Run.{openOf, nextPlace, stepOf, closeOf};
 ghost use Rattle.hencouch.specs.Numbers.{geometryOf, sizeOf, macroblockSettings};
-ghost use Rattle.hencouch.specs.Run.{runOf, runNumbers, totalsNumbers};
+ghost use Rattle.hencouch.specs.Run.{runOf, runNumbers, placeNumbers, totalsNumbers};
 ghost use Rattle.hencouch.specs.Whole.{recordAreas, recordAreasOf};
 use picture::Closed;
 use picture::Run;
 use plane::Geometry;
+use plane::MacroblockPlace;
 use plane::SourceSize;
 use refusal::Reply;
 
@@ -76,6 +77,12 @@ fn write_totals(told: Closed, totals: &mut [u64; 3]) -> u8
     }
 }
 
+fn place_numbers(at: MacroblockPlace) -> [u64; 2]
+    ensures { λ r. ⌜ r ≡ placeNumbers at ⌝ }
+{
+    [wide(at.column), wide(at.row)]
+}
+
 // A run of which nothing is coded yet: 6.
 #[no_mangle]
 pub extern "C" fn hencouch_open(width: usize, height: usize, run: &mut [u64; 5]) -> u8
@@ -91,6 +98,18 @@ pub extern "C" fn hencouch_open(width: usize, height: usize, run: &mut [u64; 5])
     let given = opened.run;
     write_run(reply, given, run);
     refusal::code(reply)
+}
+
+// Where the next macroblock stands, column and row, for any five numbers. Never refused.
+#[no_mangle]
+pub extern "C" fn hencouch_next_place(run: &[u64; 5], place: &mut [u64; 2]) -> u8
+    ensures { λ r. ⌜ r ≡ 0 ⌝ }
+    ensures { λ _. ⌜ now (place .exit) ≡ placeNumbers (nextPlace (runOf (now (run .entry)))) ⌝ }
+{
+    let before = run_of(*run);
+    let next = picture::next_place(before);
+    *place = place_numbers(next);
+    0
 }
 
 // Searches for the run's next macroblock and codes it against a lent prediction: 21, 22, then 1, 2, 3, 4, 5, 6, 7, 10, 11, 12, 14.

@@ -1,13 +1,17 @@
-// Prediction of blocks.
+// Interpolation: blocks, one sample, and the split of a vector component.
 ghost use mathlib.Core.Path.{_≡_};
+ghost use Prim.Native.Nat.{_%_};
 ghost use lib.ListN.{length};
 ghost use Rattle.refusal.specs.Number.{codeOf};
 ghost use Rattle.refusal.specs.Reply.{done};
 ghost use Rattle.plane.specs.Plane.{planeOf};
 ghost use Rattle.plane.specs.Reference.{blockReply};
+ghost use Rattle.half_sample.specs.Average.{pixelOf};
+ghost use Rattle.half_sample.specs.Split.{splitHalf};
 ghost use Rattle.half_sample.specs.Block.{halfBlock};
 ghost use Rattle.quarter_sample.specs.Block.{quarterBlock, quarterReply};
-ghost use Rattle.hencouch.specs.Numbers.{geometryOf, vectorOf, siteOf};
+ghost use Rattle.quarter_sample.specs.Split.{splitQuarter};
+ghost use Rattle.hencouch.specs.Numbers.{geometryOf, vectorOf, siteOf, isSet, flagOf};
 use plane::Geometry;
 
 // Half samples: 4, 5, 8, 12, 14.
@@ -89,4 +93,53 @@ pub extern "C" fn hencouch_interpolate_block_qpel_into(
         out,
     );
     refusal::code(reply)
+}
+
+// One sample, a half to the right where half_x is not 0 and a half down where half_y is not 0. Never refused.
+#[no_mangle]
+pub extern "C" fn hencouch_interpolate_pixel(
+    a: u8,
+    b: u8,
+    c: u8,
+    d: u8,
+    half_x: u8,
+    half_y: u8,
+    rounding: u8,
+    sample: &mut u8,
+) -> u8
+    ensures { λ r. ⌜ r ≡ 0 ⌝ }
+    ensures { λ _. ⌜ now (sample .exit) ≡ pixelOf a b c d (isSet «half_x») (isSet «half_y») (rounding % 2) ⌝ }
+{
+    let across = crate::numbers::is_set(half_x);
+    let down = crate::numbers::is_set(half_y);
+    *sample = half_sample::interpolate_pixel(a, b, c, d, across, down, rounding);
+    0
+}
+
+// Whole samples, rounded down, and 1 where half a sample is left. Never refused.
+#[no_mangle]
+pub extern "C" fn hencouch_split_half_pel(mv: i32, whole: &mut i32, half: &mut u8) -> u8
+    ensures { λ r. ⌜ r ≡ 0 ⌝ }
+    ensures { λ _. ⌜ now (whole .exit) ≡ splitHalf mv .whole ⌝ }
+    ensures { λ _. ⌜ now (half .exit) ≡ flagOf (splitHalf mv .half) ⌝ }
+{
+    let split = half_sample::split_half_pel(mv);
+    let down = split.whole;
+    *whole = down;
+    *half = crate::numbers::flag_of(split.half);
+    0
+}
+
+// Whole samples, rounded down, and the quarters above them. Never refused.
+#[no_mangle]
+pub extern "C" fn hencouch_split_quarter_pel(mv: i32, whole: &mut i32, fraction: &mut u8) -> u8
+    ensures { λ r. ⌜ r ≡ 0 ⌝ }
+    ensures { λ _. ⌜ now (whole .exit) ≡ splitQuarter mv .whole ⌝ }
+    ensures { λ _. ⌜ now (fraction .exit) ≡ splitQuarter mv .fraction ⌝ }
+{
+    let split = quarter_sample::split_quarter_pel(mv);
+    let down = split.whole;
+    *whole = down;
+    *fraction = split.fraction;
+    0
 }

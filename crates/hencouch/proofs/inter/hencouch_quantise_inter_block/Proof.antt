@@ -12,7 +12,7 @@ use Rattle.coding.specs.Coding.{Quantising, quantisingOf, blockAreas, countOf}
 use Rattle.coding.specs.Reply.{codingReply, blockEvents}
 use Rattle.refusal.proofs.Replies.{done-again}
 use borrow.Author.Needs.{needs}
-use Rattle.hencouch.specs.Numbers.{firstMethod}
+use Rattle.hencouch.specs.Numbers.{isSet}
 use Rattle.hencouch.proofs.inter.hencouch_quantise_inter_block.Statement.{statement}
 use Rattle.hencouch.proofs.inter.hencouch_quantise_inter_block.Tie as tie
 
@@ -29,8 +29,8 @@ module _ (s : tie.Start) where
   abbrev toldFor : Bool → Events
   toldFor first = blockEvents (replyFor first) (by first) (s .args .residual .now)
 
-first-method-of-requires : tie.Need-first-method-of-requires
-first-method-of-requires c κs = search needs
+is-set-requires : tie.Need-is-set-requires
+is-set-requires c κs = search needs
 
 quantise-inter-block-requires : tie.Need-quantise-inter-block-requires
 quantise-inter-block-requires c κs = search needs
@@ -53,11 +53,11 @@ returns c =
     let m = d .before .before .before .before in
     let s = m .before .before .before .before in
     let a = s .args in
-    let is = m .first-method-of .ensures in
+    let is = m .is-set .ensures in
     let e = d .quantise-inter-block .ensures in
     let w = c .write-count .ensures in
     let told = e .0 ∙ ap (toldFor s) is in
-    let first = firstMethod (a .first-method) in
+    let first = isSet (a .first-method) in
     let old = areas (a .lasts .now) (a .runs .now) (a .levels .now) in (
       w .0 ∙ ap (λ (t : Events). codeOf (t .reply)) told,
       e .1
@@ -72,7 +72,7 @@ pub hencouch-quantise-inter-block-spec : {M : Type 1} → statement M
 hencouch-quantise-inter-block-spec =
     tie.close
     (tie.spec
-    first-method-of-requires
+    is-set-requires
     quantise-inter-block-requires
     write-count-requires
     same-length

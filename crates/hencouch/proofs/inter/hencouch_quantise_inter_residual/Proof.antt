@@ -13,7 +13,7 @@ use Rattle.coding.specs.Coding.{Quantising, quantisingOf, areasOf, countsOf}
 use Rattle.coding.specs.Reply.{codingReply, residualEvents}
 use Rattle.refusal.proofs.Replies.{done-again}
 use borrow.Author.Needs.{needs}
-use Rattle.hencouch.specs.Numbers.{firstMethod}
+use Rattle.hencouch.specs.Numbers.{isSet}
 use Rattle.hencouch.proofs.inter.hencouch_quantise_inter_residual.Statement.{statement}
 use Rattle.hencouch.proofs.inter.hencouch_quantise_inter_residual.Tie as tie
 
@@ -30,8 +30,8 @@ module _ (s : tie.Start) where
   abbrev toldFor : Bool → Counted
   toldFor first = residualEvents (replyFor first) (by first) (s .args .residual .now)
 
-first-method-of-requires : tie.Need-first-method-of-requires
-first-method-of-requires c κs = search needs
+is-set-requires : tie.Need-is-set-requires
+is-set-requires c κs = search needs
 
 quantise-inter-residual-requires : tie.Need-quantise-inter-residual-requires
 quantise-inter-residual-requires c κs = search needs
@@ -54,11 +54,11 @@ returns c =
     let m = d .before .before .before .before in
     let s = m .before .before .before .before in
     let a = s .args in
-    let is = m .first-method-of .ensures in
+    let is = m .is-set .ensures in
     let e = d .quantise-inter-residual .ensures in
     let w = c .write-counts .ensures in
     let told = e .0 ∙ ap (toldFor s) is in
-    let first = firstMethod (a .first-method) in
+    let first = isSet (a .first-method) in
     let old = areas (a .lasts .now) (a .runs .now) (a .levels .now) in (
       w .0 ∙ ap (λ (t : Counted). codeOf (t .reply)) told,
       e .1
@@ -73,7 +73,7 @@ pub hencouch-quantise-inter-residual-spec : {M : Type 1} → statement M
 hencouch-quantise-inter-residual-spec =
     tie.close
     (tie.spec
-    first-method-of-requires
+    is-set-requires
     quantise-inter-residual-requires
     write-counts-requires
     same-length

@@ -20,8 +20,8 @@ module _ (s : tie.Start) where
   abbrev blockFor : Bool → List ℤ
   blockFor first = let a = s .args in blockLevels first (a .quantiser) (a .weights .now) (a .coefficients .now)
 
-first-method-of-requires : tie.Need-first-method-of-requires
-first-method-of-requires c κs = search needs
+is-set-requires : tie.Need-is-set-requires
+is-set-requires c κs = search needs
 
 quantise-block-requires : tie.Need-quantise-block-requires
 quantise-block-requires c κs = search needs
@@ -37,11 +37,11 @@ returns c =
     let d = c .before .before in
     let m = d .before .before in
     let s = m .before .before in
-    let is = m .first-method-of .ensures in
+    let is = m .is-set .ensures in
     let e = d .quantise-block .ensures in
     let r = e .0 ∙ ap (replyFor s) is in
     (c .code .ensures ∙ ap codeOf r, e .1 .0 ∙ λ i. done (r i) (blockFor s (is i)) (s .args .out .now))
 
 pub hencouch-quantise-block-spec : {M : Type 1} → statement M
 hencouch-quantise-block-spec =
-    tie.close (tie.spec first-method-of-requires quantise-block-requires code-requires same-length returns)
+    tie.close (tie.spec is-set-requires quantise-block-requires code-requires same-length returns)

@@ -1,0 +1,79 @@
+-- `hencouch::predicted::hencouch_predict_luma_macroblock_4mv` meets its contract. Assumes nothing.
+use Prim.Native.Nat.{ℕ}
+use mathlib.Core.List.{List}
+use mathlib.Core.Path.{_≡_, ap, ap₂, _∙_}
+use lib.ListN.{length}
+use mir.Syntax.{w32}
+use mir.ValLaws.{toZ-ofZ}
+use Rattle.refusal.specs.declared.Reply.{Reply}
+use Rattle.refusal.specs.Number.{codeOf}
+use Rattle.refusal.specs.Reply.{done}
+use Rattle.plane.specs.declared.Point.{Point}
+use Rattle.plane.specs.Plane.{planeOf}
+use Rattle.prediction.specs.declared.PvopMbMotion.{PvopMbMotion}
+use Rattle.prediction.specs.Luma.{modeOf}
+use Rattle.prediction.specs.Macroblock.{macroblockLuma}
+use Rattle.hencouch.specs.Numbers.{geometryOf, pointOf}
+use Rattle.hencouch.specs.Predicted.{lumaMacroblockReply}
+use borrow.Author.Needs.{needs}
+use Rattle.hencouch.proofs.predicted.hencouch_predict_luma_macroblock_4mv.Statement.{
+  statement,
+}
+use Rattle.hencouch.proofs.predicted.hencouch_predict_luma_macroblock_4mv.Tie as tie
+
+module _ (s : tie.Start) where
+  -- the reply and the samples, for a motion and a corner
+  abbrev replyFor : PvopMbMotion → Point → Reply
+  replyFor m o =
+      let a = s .args in
+      let geometry = geometryOf (a .width) (a .height) (a .stride) in
+      lumaMacroblockReply (a .mode) (a .bits-per-pixel) geometry (length (a .samples .now)) m o (length (a .out .now))
+
+  abbrev lumaFor : PvopMbMotion → Point → List ℕ
+  lumaFor m o =
+      let a = s .args in
+      let geometry = geometryOf (a .width) (a .height) (a .stride) in
+      macroblockLuma (modeOf (a .mode) (a .bits-per-pixel)) (planeOf (a .samples .now) geometry) m o (a .rounding)
+
+-- the numbers are read back as they were handed in
+corner-is : (c : tie.After-point-of) → let a = c .before .before .before .before .before .args in c .point-of .result ≡ pointOf (a .origin-x) (a .origin-y)
+corner-is c =
+    let s = c .before .before .before .before .before in
+    c .point-of .ensures ∙ ap₂ pointOf (toZ-ofZ w32 (s .args .origin-x) (s .fits .origin-x)) (toZ-ofZ w32 (s .args .origin-y) (s .fits .origin-y))
+
+four-motion-requires : tie.Need-four-motion-requires
+four-motion-requires c κs = search needs
+
+point-of-requires : tie.Need-point-of-requires
+point-of-requires c κs = search needs
+
+predict-macroblock-requires : tie.Need-predict-macroblock-requires
+predict-macroblock-requires c κs = search needs
+
+code-requires : tie.Need-code-requires
+code-requires c κs = search needs
+
+same-length : tie.Need-same-length
+same-length c = search needs
+
+returns : tie.Need-returns
+returns c =
+    let d = c .before .before .before in
+    let o = d .before .before in
+    let f = o .before in
+    let s = f .before .before .before .before in
+    let m = f .four-motion .ensures in
+    let e = d .predict-macroblock .ensures in
+    let r = e .0 ∙ ap₂ (replyFor s) m (corner-is o) in
+    (c .code .ensures ∙ ap codeOf r, e .1 ∙ λ i. done (r i) (lumaFor s (m i) (corner-is o i)) (s .args .out .now))
+
+pub hencouch-predict-luma-macroblock-4mv-spec : {M : Type 1} → statement M
+hencouch-predict-luma-macroblock-4mv-spec =
+    tie.close
+    (tie.spec
+    four-motion-requires
+    point-of-requires
+    predict-macroblock-requires
+    code-requires
+    same-length
+    returns)

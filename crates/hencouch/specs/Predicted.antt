@@ -1,0 +1,20 @@
+-- What turns a prediction back where its mode is a number: document 01, "Turned back because of the input", 2 before 3.
+use Prim.Native.Nat.{ℕ}
+use Rattle.refusal.specs.declared.Reply.{Reply}
+use Rattle.refusal.specs.Reply.{andThen}
+use Rattle.record.specs.declared.MotionVector.{MotionVector}
+use Rattle.plane.specs.declared.Geometry.{Geometry}
+use Rattle.plane.specs.declared.Point.{Point}
+use Rattle.plane.specs.declared.Site.{Site}
+use Rattle.prediction.specs.declared.PvopMbMotion.{PvopMbMotion}
+use Rattle.prediction.specs.Luma.{modeOf, predictReply}
+use Rattle.prediction.specs.Macroblock.{macroblockReply}
+use Rattle.hencouch.specs.Numbers.{modeNumberReply}
+
+-- 2, 3, 4, 5, 8, 12, 14
+abbrev pub lumaBlockReply : ℕ → ℕ → Geometry → ℕ → MotionVector → Site → ℕ → Reply
+lumaBlockReply mode bpp g bytes v site area = andThen (modeNumberReply mode) (predictReply (modeOf mode bpp) g bytes v site area)
+
+-- 2, 3, 4, 5, 8, 12
+abbrev pub lumaMacroblockReply : ℕ → ℕ → Geometry → ℕ → PvopMbMotion → Point → ℕ → Reply
+lumaMacroblockReply mode bpp g bytes motion corner area = andThen (modeNumberReply mode) (macroblockReply (modeOf mode bpp) g bytes motion corner area)

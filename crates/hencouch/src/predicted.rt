@@ -1,0 +1,207 @@
+// Prediction of luma, of a block or a macroblock, in the mode of a number.
+ghost use mathlib.Core.Path.{_≡_};
+ghost use lib.ListN.{length};
+ghost use Rattle.refusal.specs.Number.{codeOf};
+ghost use Rattle.refusal.specs.Reply.{done};
+ghost use Rattle.plane.specs.Plane.{planeOf};
+ghost use Rattle.prediction.specs.Luma.{modeOf, predictedBlock};
+ghost use Rattle.prediction.specs.Macroblock.{macroblockLuma};
+ghost use Rattle.prediction.specs.declared.PvopMbMotion.the-variants.{OneMv};
+ghost use Rattle.hencouch.specs.Numbers.{geometryOf, vectorOf, pointOf, siteOf, fourMotion};
+ghost use Rattle.hencouch.specs.Predicted.{lumaBlockReply, lumaMacroblockReply};
+use plane::Geometry;
+use plane::Point;
+use plane::Site;
+use prediction::PvopMbMotion;
+use record::MotionVector;
+use refusal::Reply;
+
+// A block: 2, then as the mode has it.
+fn predict_block(
+    samples: &[u8],
+    geometry: Geometry,
+    mode: u32,
+    bpp: u32,
+    vector: MotionVector,
+    site: Site,
+    rounding: u8,
+    out: &mut [u8],
+) -> Reply
+    ensures { λ r. ⌜ r ≡ lumaBlockReply mode bpp geometry (length (now (samples .entry))) vector site (length (now (out .entry))) ⌝ }
+    ensures { λ r. ⌜ now (out .exit) ≡ done r (predictedBlock (modeOf mode bpp) (planeOf (now (samples .entry)) geometry) site rounding vector) (now (out .entry)) ⌝ }
+{
+    let known = crate::numbers::mode_number_reply(mode);
+    let units = prediction::mode_of(mode, bpp);
+    match known {
+        Reply::Refused(why) => Reply::Refused(why),
+        Reply::Done => {
+            prediction::predict_luma_block(samples, geometry, units, site, vector, rounding, out)
+        }
+    }
+}
+
+// A macroblock: 2, then as the mode has it.
+fn predict_macroblock(
+    samples: &[u8],
+    geometry: Geometry,
+    mode: u32,
+    bpp: u32,
+    motion: PvopMbMotion,
+    corner: Point,
+    rounding: u8,
+    out: &mut [u8],
+) -> Reply
+    ensures { λ r. ⌜ r ≡ lumaMacroblockReply mode bpp geometry (length (now (samples .entry))) motion corner (length (now (out .entry))) ⌝ }
+    ensures { λ r. ⌜ now (out .exit) ≡ done r (macroblockLuma (modeOf mode bpp) (planeOf (now (samples .entry)) geometry) motion corner rounding) (now (out .entry)) ⌝ }
+{
+    let known = crate::numbers::mode_number_reply(mode);
+    let units = prediction::mode_of(mode, bpp);
+    match known {
+        Reply::Refused(why) => Reply::Refused(why),
+        Reply::Done => prediction::predict_luma_macroblock(
+            samples,
+            geometry,
+            units,
+            motion,
+            corner,
+            rounding,
+            out,
+        ),
+    }
+}
+
+// The luma of a block: 2, 3, 4, 5, 8, 12, 14.
+#[no_mangle]
+pub extern "C" fn hencouch_predict_luma_block(
+    samples: &[u8],
+    width: usize,
+    height: usize,
+    stride: usize,
+    mode: u32,
+    bits_per_pixel: u32,
+    mv_x: i32,
+    mv_y: i32,
+    origin_x: i32,
+    origin_y: i32,
+    block_w: usize,
+    block_h: usize,
+    rounding: u8,
+    out: &mut [u8],
+) -> u8
+    ensures { λ r. ⌜ (
+        let geometry = geometryOf width height stride in
+        let vector = vectorOf «mv_x» «mv_y» in
+        let site = siteOf «origin_x» «origin_y» «block_w» «block_h» in
+        let reply = lumaBlockReply mode «bits_per_pixel» geometry (length (now (samples .entry))) vector site (length (now (out .entry))) in
+        let block = predictedBlock (modeOf mode «bits_per_pixel») (planeOf (now (samples .entry)) geometry) site rounding vector in
+        (r ≡ codeOf reply) × (now (out .exit) ≡ done reply block (now (out .entry)))
+        ) ⌝ }
+{
+    let geometry = Geometry {
+        width,
+        height,
+        stride,
+    };
+    let vector = crate::numbers::vector_of(mv_x, mv_y);
+    let site = crate::numbers::site_of(origin_x, origin_y, block_w, block_h);
+    let reply = predict_block(
+        samples,
+        geometry,
+        mode,
+        bits_per_pixel,
+        vector,
+        site,
+        rounding,
+        out,
+    );
+    refusal::code(reply)
+}
+
+// The luma of a macroblock by one vector: 2, 3, 4, 5, 8, 12.
+#[no_mangle]
+pub extern "C" fn hencouch_predict_luma_macroblock(
+    samples: &[u8],
+    width: usize,
+    height: usize,
+    stride: usize,
+    mode: u32,
+    bits_per_pixel: u32,
+    mv_x: i32,
+    mv_y: i32,
+    origin_x: i32,
+    origin_y: i32,
+    rounding: u8,
+    out: &mut [u8],
+) -> u8
+    ensures { λ r. ⌜ (
+        let geometry = geometryOf width height stride in
+        let motion = OneMv (vectorOf «mv_x» «mv_y») in
+        let corner = pointOf «origin_x» «origin_y» in
+        let reply = lumaMacroblockReply mode «bits_per_pixel» geometry (length (now (samples .entry))) motion corner (length (now (out .entry))) in
+        let luma = macroblockLuma (modeOf mode «bits_per_pixel») (planeOf (now (samples .entry)) geometry) motion corner rounding in
+        (r ≡ codeOf reply) × (now (out .exit) ≡ done reply luma (now (out .entry)))
+        ) ⌝ }
+{
+    let geometry = Geometry {
+        width,
+        height,
+        stride,
+    };
+    let vector = crate::numbers::vector_of(mv_x, mv_y);
+    let corner = crate::numbers::point_of(origin_x, origin_y);
+    let reply = predict_macroblock(
+        samples,
+        geometry,
+        mode,
+        bits_per_pixel,
+        PvopMbMotion::OneMv(vector),
+        corner,
+        rounding,
+        out,
+    );
+    refusal::code(reply)
+}
+
+// The same by four vectors, one for each 8 x 8 block: 2, 3, 4, 5, 8, 12.
+#[no_mangle]
+pub extern "C" fn hencouch_predict_luma_macroblock_4mv(
+    samples: &[u8],
+    width: usize,
+    height: usize,
+    stride: usize,
+    mode: u32,
+    bits_per_pixel: u32,
+    vectors: &[i32; 8],
+    origin_x: i32,
+    origin_y: i32,
+    rounding: u8,
+    out: &mut [u8],
+) -> u8
+    ensures { λ r. ⌜ (
+        let geometry = geometryOf width height stride in
+        let motion = fourMotion (now (vectors .entry)) in
+        let corner = pointOf «origin_x» «origin_y» in
+        let reply = lumaMacroblockReply mode «bits_per_pixel» geometry (length (now (samples .entry))) motion corner (length (now (out .entry))) in
+        let luma = macroblockLuma (modeOf mode «bits_per_pixel») (planeOf (now (samples .entry)) geometry) motion corner rounding in
+        (r ≡ codeOf reply) × (now (out .exit) ≡ done reply luma (now (out .entry)))
+        ) ⌝ }
+{
+    let geometry = Geometry {
+        width,
+        height,
+        stride,
+    };
+    let motion = crate::numbers::four_motion(*vectors);
+    let corner = crate::numbers::point_of(origin_x, origin_y);
+    let reply = predict_macroblock(
+        samples,
+        geometry,
+        mode,
+        bits_per_pixel,
+        motion,
+        corner,
+        rounding,
+        out,
+    );
+    refusal::code(reply)
+}
