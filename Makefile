@@ -67,7 +67,7 @@ BENCH_LIBDIR := target/only/$(TIMED)/target/staticlib
 BENCH_NEEDS := only $(if $(filter broodline,$(TIMED)),$(BROODLINE))
 endif
 
-.PHONY: run sample broodline help test staticlib compare bench only machine-code call readme-lines named-files originals
+.PHONY: run sample broodline help test staticlib compare bench only machine-code call readme-lines named-files originals stored stored-changed replay
 .NOTPARALLEL:
 
 help:
@@ -76,6 +76,9 @@ help:
 	@echo 'make broodline             the program with an exit status, as target/broodline'
 	@echo 'make staticlib             the static library for C and Rust'
 	@echo 'make compare DOCS=FOLDER   the library and broodline against the original Rust, at random'
+	@echo 'make replay                a C program that makes every stored call and holds the library to its answer'
+	@echo 'make stored DOCS=FOLDER    asks the original Rust anew and writes the stored calls (docs/STORED.md)'
+	@echo 'make stored-changed DOCS=FOLDER   whether the stored calls tell wrong originals from the right ones'
 	@echo 'make bench DOCS=FOLDER     the same two, timed side by side; fails where a row is below what'
 	@echo '                           oracle/wanted.txt wants of it'
 	@echo 'make bench DOCS=FOLDER ONLY=CRATE   the rows that watch one crate, in seconds: half_sample,'
@@ -158,6 +161,29 @@ originals:
 compare: originals $(LIBRARY) $(BROODLINE)
 	$(RUST) -L native=$(LIBDIR) -o target/oracle/compare target/oracle/compare.rs
 	target/oracle/compare --broodline $(BROODLINE) $(ARGS)
+
+# The stored calls, of the originals alone: the library that the program would link is empty.
+CALLS := crates/compare/data/calls
+HEADER := include/hencouch.h
+STORE := $(RUST) -L native=. -o store stored.rs
+
+stored: originals
+	ar rc target/oracle/libhencouch.a
+	cd target/oracle && $(STORE)
+	target/oracle/store $(HEADER) $(CALLS)
+
+stored-changed: originals
+	ar rc target/oracle/libhencouch.a
+	rm -rf target/changed
+	cp -R target/oracle target/changed
+	cp oracle/stored/changed.txt target/changed
+	cd target/changed && sh ../../oracle/stored/changed.sh '$(STORE) -C opt-level=1' $(abspath $(HEADER)) $(abspath $(CALLS))
+
+# Every stored call, made by C through the header.
+replay: $(LIBRARY)
+	mkdir -p target/call
+	$(CC) -std=c99 -Wall -Wextra -O2 -Iinclude -o target/call/replay oracle/replay.c $(LIBRARY)
+	target/call/replay $(CALLS)
 
 # A row that is below its wanted figure is measured again, up to three times, before it fails.
 bench: $(BENCH_NEEDS) originals

@@ -1,0 +1,63 @@
+//! Planes of samples for stored calls, small ones: a file of calls is to stay short.
+
+use super::call::Call;
+use crate::pictures::{noise, smooth};
+use crate::random::Random;
+
+/// Sides of a reference: single samples, single rows and columns, around a block's own sides.
+pub const SIDES: [(usize, usize); 10] =
+    [(12, 10), (1, 1), (1, 7), (9, 1), (2, 2), (8, 8), (9, 9), (17, 17), (16, 5), (20, 18)];
+
+/// What a plane shows.
+#[derive(Clone, Copy)]
+pub enum Shown {
+    /// 0 and 255 alone, at which the filter is cut.
+    Extremes,
+    Noise,
+    Smooth,
+    /// Neighbours that differ by one, at which averages round.
+    Steps,
+}
+
+pub const SHOWN: [Shown; 4] = [Shown::Extremes, Shown::Noise, Shown::Smooth, Shown::Steps];
+
+pub fn sample(shown: Shown, salt: u64, x: i32, y: i32) -> u8 {
+    match shown {
+        Shown::Extremes => noise(x, y, salt) / 128 * 255,
+        Shown::Noise => noise(x, y, salt),
+        Shown::Smooth => smooth(x, y, 5, salt),
+        Shown::Steps => 127 + noise(x, y, salt) % 2,
+    }
+}
+
+/// Samples by rows; what lies between a row's end and the next row is noise, as is what follows.
+pub fn rows(
+    (width, height): (usize, usize),
+    stride: usize,
+    more: usize,
+    random: &mut Random,
+    at: impl Fn(i32, i32) -> u8,
+) -> Vec<u8> {
+    let mut samples = vec![0; (height - 1) * stride + width + more];
+    random.fill(&mut samples);
+    for y in 0..height {
+        for x in 0..width {
+            samples[y * stride + x] = at(x as i32, y as i32);
+        }
+    }
+    samples
+}
+
+/// The call with a reference of the given sides; every third has a stride above its width.
+pub fn with_reference(c: Call, turn: usize, random: &mut Random) -> Call {
+    let sides = SIDES[turn % SIDES.len()];
+    let shown = SHOWN[turn / SIDES.len() % SHOWN.len()];
+    let stride = sides.0 + if turn % 3 == 1 { random.size(1, 6) } else { 0 };
+    let salt = random.bits();
+    let more = if turn % 4 == 3 { 2 } else { 0 };
+    let samples = rows(sides, stride, more, random, |x, y| sample(shown, salt, x, y));
+    c.reads("samples", &samples)
+        .size("width", sides.0)
+        .size("height", sides.1)
+        .size("stride", stride)
+}
