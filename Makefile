@@ -29,6 +29,9 @@ SEARCH_CODE := full_search::sums::block
 PSADBW := 6
 COUNT_PSADBW = awk -v code='$(SEARCH_CODE)' -v least=$(PSADBW) -f oracle/psadbw.awk
 RUST := rustc --edition 2021 -C opt-level=3 -C codegen-units=1
+# $(call crate,FOLDER,LIBDIR): the crate of bindings/rust over a folder's library, as an rlib.
+crate = $(RUST) --crate-type rlib --crate-name hencouch -L native=$(2) \
+  -o $(1)/libhencouch.rlib bindings/rust/src/lib.rs
 
 # Sets of rows: the crates whose entries they call, and these entries.
 ROWS := half_sample quarter_sample fdct levels search coding macroblock broodline
@@ -159,21 +162,24 @@ originals:
 	$(foreach file,$(CUT_FILES),$(call cut,$(file),$(CUT_$(file))))
 
 compare: originals $(LIBRARY) $(BROODLINE)
-	$(RUST) -L native=$(LIBDIR) -o target/oracle/compare target/oracle/compare.rs
+	$(call crate,target/oracle,$(LIBDIR))
+	$(RUST) --extern hencouch=target/oracle/libhencouch.rlib -o target/oracle/compare target/oracle/compare.rs
 	target/oracle/compare --broodline $(BROODLINE) $(ARGS)
 
 # The stored calls, of the originals alone: the library that the program would link is empty.
 CALLS := crates/compare/data/calls
 HEADER := include/hencouch.h
-STORE := $(RUST) -L native=. -o store stored.rs
+STORE := $(RUST) --extern hencouch=libhencouch.rlib -o store stored.rs
 
 stored: originals
 	ar rc target/oracle/libhencouch.a
+	$(call crate,target/oracle,target/oracle)
 	cd target/oracle && $(STORE)
 	target/oracle/store $(HEADER) $(CALLS)
 
 stored-changed: originals
 	ar rc target/oracle/libhencouch.a
+	$(call crate,target/oracle,target/oracle)
 	rm -rf target/changed
 	cp -R target/oracle target/changed
 	cp oracle/stored/changed.txt target/changed
@@ -187,7 +193,8 @@ replay: $(LIBRARY)
 
 # A row that is below its wanted figure is measured again, up to three times, before it fails.
 bench: $(BENCH_NEEDS) originals
-	$(RUST) -L native=$(BENCH_LIBDIR) --check-cfg 'cfg(timed, values(any()))' \
+	$(call crate,target/oracle,$(BENCH_LIBDIR))
+	$(RUST) --extern hencouch=target/oracle/libhencouch.rlib --check-cfg 'cfg(timed, values(any()))' \
 	  $(foreach rows,$(TIMED),--cfg 'timed="$(rows)"') -o target/oracle/bench target/oracle/bench.rs
 	target/oracle/bench $(WANTED) $(BROODLINE)
 
@@ -208,7 +215,8 @@ call: readme-lines $(LIBRARY)
 	mkdir -p target/call
 	$(CC) -std=c99 -Wall -Wextra -O2 -Iinclude -o target/call/from_c oracle/call.c $(LIBRARY)
 	target/call/from_c
-	$(RUST) -L native=$(LIBDIR) -o target/call/from_rust oracle/call.rs
+	$(call crate,target/call,$(LIBDIR))
+	$(RUST) --extern hencouch=target/call/libhencouch.rlib -o target/call/from_rust bindings/rust/examples/call.rs
 	target/call/from_rust
 
 # $(call shown,FILE): the lines of a program between `shown` and `so far`, as README.md has them.
@@ -220,11 +228,11 @@ in_readme = sed -n -e '/^```$(1)$$/,/^```$$/{' -e '/^```/d' -e 'p' -e '}' README
 readme-lines:
 	@mkdir -p target/call
 	@$(call shown,oracle/call.c,s/^    //;) > target/call/shown.c
-	@$(call shown,oracle/call.rs) > target/call/shown.rs
+	@$(call shown,bindings/rust/examples/call.rs) > target/call/shown.rs
 	@$(call in_readme,c) > target/call/readme.c
 	@$(call in_readme,rust) > target/call/readme.rs
 	@diff target/call/shown.c target/call/readme.c || { echo 'README.md has other lines of C than oracle/call.c' >&2; exit 1; }
-	@diff target/call/shown.rs target/call/readme.rs || { echo 'README.md has other lines of Rust than oracle/call.rs' >&2; exit 1; }
+	@diff target/call/shown.rs target/call/readme.rs || { echo 'README.md has other lines of Rust than bindings/rust/examples/call.rs' >&2; exit 1; }
 	@sed -n '/^    $$ make run$$/,/^$$/s/^    \([0-9]\)/\1/p' README.md | diff crates/broodline/stdout - || { echo 'README.md has other lines of broodline than crates/broodline/stdout' >&2; exit 1; }
 	@test -s target/call/readme.c -a -s target/call/readme.rs || { echo 'README.md shows no lines of C or Rust' >&2; exit 1; }
 

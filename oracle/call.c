@@ -81,7 +81,6 @@ static void code(void) {
     memset(pred_cb, 128, sizeof pred_cb);
     memset(pred_cr, 128, sizeof pred_cr);
     memset(weights, 16, sizeof weights);
-    /* shown */
     /* fcode 1, half samples, 8 bits per pixel, quantiser 5, second method, four vectors, zigzag. */
     uint8_t lasts[384], runs[384], patterns[2], counts[6];
     int32_t levels[384], vector[2], four_vectors[8];
@@ -94,7 +93,6 @@ static void code(void) {
                                              lasts, 384, runs, 384, levels, 384,
                                              vector, &sum, four_vectors, four_sums,
                                              patterns, counts);
-    /* so far */
     expect("the coding's reply", reply, 0);
     expect("the coded vector's horizontal part", vector[0], 6);
     expect("the coded vector's vertical part", vector[1], 2);

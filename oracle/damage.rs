@@ -2,7 +2,7 @@
 //! macroblock's place and with other settings, for the groups that take them: refusals written from
 //! the list and independent of the library, and random damage.
 
-use crate::library::{Reference, Source};
+use crate::ask::{Reference, Source};
 use crate::random::Random;
 
 pub fn bad_geometry(r: &Reference) -> bool {

@@ -4,12 +4,12 @@
 use crate::damage;
 use crate::guard::{held, Lent};
 use crate::ivop_encode;
-use crate::library;
 use crate::options::Options;
 use crate::random::Random;
 use crate::scan::{self, ScanType};
 use crate::summary::Summary;
 use crate::tally::Tally;
+use hencouch::raw;
 
 const SCANS: [ScanType; 3] =
     [ScanType::AlternateHorizontal, ScanType::AlternateVertical, ScanType::Zigzag];
@@ -77,7 +77,7 @@ impl Call {
 
     fn check_scan(&self, reply: u8, lent: &mut Lent<i32>) -> Result<(), String> {
         let forward = self.function == Function::Forward;
-        let ask = if forward { library::forward_scan } else { library::inverse_scan };
+        let ask = if forward { raw::forward_scan } else { raw::inverse_scan };
         let got = ask(&self.levels, self.scan, lent.area());
         let wanted = if reply == 0 { self.original_scan() } else { Vec::new() };
         held(lent, got, reply, &wanted)
@@ -104,7 +104,7 @@ impl Call {
         let before = random.byte();
         let mut count = before;
         let (marks, zeros) = (lasts.area(), runs.area());
-        let got = library::levels_to_events(&self.levels, marks, zeros, lent.area(), &mut count);
+        let got = raw::levels_to_events(&self.levels, marks, zeros, lent.area(), &mut count);
         if reply != 0 {
             if !lasts.untouched() || !runs.untouched() || count != before {
                 return Err("refused, and marks, runs or the count were written".to_string());

@@ -5,12 +5,12 @@
 use crate::damage;
 use crate::guard::{held, Lent};
 use crate::inverse_quant::{inverse_quant_method2_coef, saturate_fprime};
-use crate::library;
 use crate::options::Options;
 use crate::quantise::{quantise_method1_inter, quantise_method2_inter};
 use crate::random::Random;
 use crate::summary::Summary;
 use crate::tally::Tally;
+use hencouch::raw;
 
 /// One call of either function; the inverse takes neither method nor weights.
 #[derive(Clone, Debug)]
@@ -45,10 +45,10 @@ impl Call {
 
     fn ask_library(&self, out: &mut [i32]) -> u8 {
         if self.inverse {
-            library::inverse_block(&self.input, self.quantiser, out)
+            raw::inverse_block(&self.input, self.quantiser, out)
         } else {
             let Call { input, quantiser, first_method, weights, .. } = self;
-            library::quantise_block(input, *quantiser, *first_method, weights, out)
+            raw::quantise_block(input, *quantiser, *first_method, weights, out)
         }
     }
 

@@ -3,7 +3,6 @@
 //! areas are not cleared between calls, and the library judges its arguments in every call.
 
 use crate::ivop_encode::{forward_scan, qfs_to_events};
-use crate::library;
 use crate::quantise::{quantise_method1_inter, quantise_method2_inter};
 use crate::random::Random;
 use crate::scan::ScanType;
@@ -11,6 +10,7 @@ use crate::table::{Over, Table};
 use crate::texture::AcEvent;
 use crate::timing::{measure, Times, MIX};
 use crate::wanted::Wanted;
+use hencouch::raw;
 use std::hint::black_box;
 use std::time::Duration;
 
@@ -109,9 +109,9 @@ impl Areas {
         let method = setting.first_method as u8;
         let q = setting.quantiser;
         let replies = [
-            library::quantise_block(block, q, method, weights, &mut self.levels),
-            library::forward_scan(&self.levels, 2, &mut self.ordered),
-            library::levels_to_events(
+            raw::quantise_block(block, q, method, weights, &mut self.levels),
+            raw::forward_scan(&self.levels, 2, &mut self.ordered),
+            raw::levels_to_events(
                 &self.ordered,
                 &mut self.lasts,
                 &mut self.runs,

@@ -9,8 +9,8 @@
 
 pub mod parts;
 
-use crate::library::{self, Areas, Coding, Prediction, Quantising, Record};
-use crate::library::{Reference, Search, Source};
+use crate::ask::{self, Areas, Coding, Prediction, Quantising, Record};
+use crate::ask::{Reference, Search, Source};
 use crate::pvop_encode::{Coded, Coder, Place};
 use crate::pvop_mv::{predict_luma_macroblock, PvopMbMotion};
 use crate::search_bench::{
@@ -237,7 +237,7 @@ impl Area {
         let Area { lasts, runs, levels, vector, sum, four_vectors, four_sums, patterns, counts } =
             self;
         let record = Record { vector, sum, four_vectors, four_sums, patterns, counts };
-        library::code_macroblock(coding, Areas { lasts, runs, levels }, record)
+        ask::code_macroblock(coding, Areas { lasts, runs, levels }, record)
     }
 
     /// Whether six blocks' events are these.

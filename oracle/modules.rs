@@ -2,10 +2,10 @@
 // functions unused.
 
 #[allow(dead_code, unused_imports)]
+mod ask;
+#[allow(dead_code, unused_imports)]
 mod broodline;
 mod bvop_prediction;
-#[macro_use]
-mod entry;
 #[allow(dead_code)]
 mod fdct;
 #[allow(dead_code)]
@@ -16,8 +16,6 @@ mod idct;
 mod inverse_quant;
 #[allow(dead_code)]
 mod ivop_encode;
-#[allow(dead_code, unused_imports)]
-mod library;
 mod motion;
 #[allow(dead_code)]
 mod pictures;

@@ -2,15 +2,19 @@
 //! originals' answer at the run's next place, the run to the count of records and the sums over
 //! them, and every refused call to leave run and areas as they were. Runs are forged too.
 
+use crate::ask::{self, Coding, Run};
 use crate::broodline::{Clip, Header};
 use crate::clip::moving::Moving;
 use crate::counted::{strings, Counted};
-use crate::library::{self, Coding, Run, Totals};
 use crate::macroblock::whole::call::{Answer, Call};
 use crate::macroblock::whole::check::check_by;
 use crate::options::Options;
 use crate::random::Random;
 use crate::summary::Summary;
+use hencouch::raw;
+
+/// Macroblocks, events, one-vector sums.
+type Totals = [u64; 3];
 
 const NAME: &str = "run";
 
@@ -61,7 +65,7 @@ impl Picture<'_> {
         }
         self.after_the_last(&run)?;
         let mut totals: Totals = [u64::MAX; 3];
-        let reply = library::close(&run, &mut totals);
+        let reply = raw::close(&run, &mut totals);
         same("close", (reply, totals), (0, [run[2], run[3], run[4]]))
     }
 
@@ -69,17 +73,17 @@ impl Picture<'_> {
     fn open(&mut self, width: u64, height: u64) -> Result<Run, String> {
         let mut run: Run = [7; 5];
         let bad = self.random.pick(&[0, 4097, usize::MAX]);
-        let reply = library::open(bad, height as usize, &mut run);
+        let reply = raw::open(bad, height as usize, &mut run);
         same("open", (reply, run), (6, [7; 5]))?;
         self.counted.add(REFUSED, "6");
-        let reply = library::open(width as usize, height as usize, &mut run);
+        let reply = raw::open(width as usize, height as usize, &mut run);
         same("open", (reply, run), (0, [width, height, 0, 0, 0]))?;
         Ok(run)
     }
 
     fn not_closed(&mut self, run: &Run) -> Result<(), String> {
         let mut totals: Totals = [9; 3];
-        let reply = library::close(run, &mut totals);
+        let reply = raw::close(run, &mut totals);
         self.counted.add(REFUSED, "23");
         same("close", (reply, totals), (23, [9; 3]))
     }
@@ -138,7 +142,7 @@ impl Picture<'_> {
             self.step([width, height, k as u64, near, near], k, "with sums that wrap")?;
             let mut totals: Totals = [0; 3];
             let past = [width, height, u64::MAX, near, near];
-            let reply = library::close(&past, &mut totals);
+            let reply = raw::close(&past, &mut totals);
             same("close", (reply, totals), (0, [u64::MAX, near, near]))?;
             self.refused(past, coding, [384; 3], 21, "21")?;
         }
@@ -177,7 +181,7 @@ impl Picture<'_> {
         (told.search.column, told.search.row) = (usize::MAX, usize::MAX);
         let call = Call { coding, lens };
         let answer = check_by(
-            |areas, record| library::step(&mut next, &told, areas, record),
+            |areas, record| ask::step(&mut next, &told, areas, record),
             &call,
             reply,
             self.random,

@@ -3,8 +3,8 @@
 //! cleared between calls. The library judges its arguments in every call; the original's plane is
 //! judged once, before the timing.
 
+use crate::ask::{self, Block, Reference};
 use crate::half_sample::{self, ReferenceVop};
-use crate::library::{self, Block, Reference};
 use crate::quarter_sample;
 use crate::random::Random;
 use crate::table::{Over, Table};
@@ -66,7 +66,7 @@ impl Interpolation for Half {
     }
 
     fn by_rattle(plane: &Reference, b: &Block, out: &mut [u8]) -> u8 {
-        library::interpolate_block_into(plane, b, out)
+        ask::interpolate_block_into(plane, b, out)
     }
 }
 
@@ -92,7 +92,7 @@ impl Interpolation for Quarter {
     }
 
     fn by_rattle(plane: &Reference, b: &Block, out: &mut [u8]) -> u8 {
-        library::interpolate_block_qpel_into(plane, b, BITS_PER_PIXEL, out)
+        ask::interpolate_block_qpel_into(plane, b, BITS_PER_PIXEL, out)
     }
 }
 

@@ -6,7 +6,7 @@
 //! The library judges its arguments and reads the source in every call; the original's reference is
 //! judged and its source blocks are laid out once, before the timing.
 
-use crate::library::{self, Reference, Search, Source};
+use crate::ask::{self, Reference, Search, Source};
 use crate::motion::MotionVector;
 use crate::pictures::{bees, noise, textured};
 use crate::pvop_encode::Place;
@@ -167,10 +167,10 @@ struct Area {
 fn ask_rattle(function: Function, work: &Work, area: &mut Area) -> u8 {
     let Area { vectors, sums } = area;
     match function {
-        Function::One => library::estimate_motion(&work.search, &mut vectors[..2], &mut sums[..1]),
+        Function::One => ask::estimate_motion(&work.search, &mut vectors[..2], &mut sums[..1]),
         Function::Four => {
             let seed = (work.seed.x, work.seed.y);
-            library::estimate_motion_4mv(&work.search, seed, vectors, sums)
+            ask::estimate_motion_4mv(&work.search, seed, vectors, sums)
         }
     }
 }

@@ -2,11 +2,11 @@
 //! Output areas are not cleared between calls. The library judges its arguments in every call.
 
 use crate::fdct;
-use crate::library;
 use crate::random::Random;
 use crate::table::{Over, Table};
 use crate::timing::{measure, Times, MIX};
 use crate::wanted::Wanted;
+use hencouch::raw;
 use std::hint::black_box;
 use std::time::Duration;
 
@@ -37,7 +37,7 @@ fn time(blocks: &[[[i32; 8]; 8]; MIX]) -> Times {
     let flat: Vec<Vec<i32>> = blocks.iter().map(|block| block.concat()).collect();
     let mut out = [0; 64];
     for (block, residual) in blocks.iter().zip(&flat) {
-        let reply = library::forward_dct_8x8(residual, &mut out);
+        let reply = raw::forward_dct_8x8(residual, &mut out);
         let wanted = fdct::forward_dct_8x8(block, 8).concat();
         assert_eq!((reply, &out[..]), (0, &wanted[..]), "the sides differ: see make compare");
     }
@@ -46,7 +46,7 @@ fn time(blocks: &[[[i32; 8]; 8]; MIX]) -> Times {
     };
     let rattle = |call: usize| {
         let residual = black_box(&flat[call % MIX]);
-        let reply = library::forward_dct_8x8(residual, &mut out);
+        let reply = raw::forward_dct_8x8(residual, &mut out);
         black_box((reply, &out));
     };
     measure(rust, rattle, BUDGET)

@@ -2,7 +2,7 @@
 //! and printed is written from document 01, as the originals have nothing of it.
 
 use super::header::{Header, HEADER};
-use crate::library::{Coding, Prediction, Quantising, Reference, Search, Source};
+use crate::ask::{Coding, Prediction, Quantising, Reference, Search, Source};
 use crate::pvop_encode::{Coded, Coder};
 
 /// Bytes that a macroblock is coded against: 256 of luma, 64 of each chroma.

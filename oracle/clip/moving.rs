@@ -1,7 +1,7 @@
 //! A random clip with nothing wrong.
 
+use crate::ask::{Macroblock, Prediction, Source};
 use crate::broodline::Header;
-use crate::library::{Macroblock, Prediction, Source};
 use crate::macroblock::predicted::{self, Predicted};
 use crate::random::Random;
 use crate::search::contents::{self, Kind, KINDS};

@@ -3,10 +3,10 @@
 use super::generator;
 use super::lent::lines;
 use super::planes::{place, Planes, KINDS};
+use crate::ask::{self, Source};
 use crate::counted::{held as marks, strings, Counted, Mark};
 use crate::damage::{self, bad_sides, beyond, places};
 use crate::guard::{held, Lent};
-use crate::library::{self, Source};
 use crate::options::Options;
 use crate::pvop_encode::{intra_activity, luma_view, source_luma_mb};
 use crate::random::Random;
@@ -40,7 +40,7 @@ impl Call<'_> {
     fn check(&self, reply: u8, salt: u8) -> Result<u32, String> {
         let mut lent = Lent::<u32>::new(1, salt);
         let Call { source, column, row } = self;
-        let got = library::intra_activity(source, *column, *row, &mut lent.area()[0]);
+        let got = ask::intra_activity(source, *column, *row, &mut lent.area()[0]);
         let original = || intra_activity(&source_luma_mb(&luma_view(source), *row, *column));
         let wanted = if reply == 0 { original() } else { 0 };
         held(&lent, got, reply, &[wanted]).map_err(|text| {

@@ -6,9 +6,9 @@
 use super::lists::{At, Bounds, List};
 use super::reader::{Handed, Reader, Samples};
 use super::whole::call::Answer;
+use crate::ask::{Coding, Macroblock, Source};
 use crate::fdct::forward_dct_8x8;
 use crate::inverse_quant::{inverse_quant_method2_coef, saturate_fprime};
-use crate::library::{Coding, Macroblock, Source};
 
 /// A run of at least this many calls has to check everything that is counted.
 const ENOUGH: usize = 20_000;

@@ -1,7 +1,7 @@
 //! The areas that events are lent, and the originals' events laid out in them.
 
+use crate::ask::Areas;
 use crate::guard::{held, Lent};
-use crate::library::Areas;
 use crate::random::Random;
 use crate::texture::AcEvent;
 

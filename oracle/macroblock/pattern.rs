@@ -2,11 +2,11 @@
 
 use super::generator;
 use crate::guard::{held, Lent};
-use crate::library;
 use crate::options::Options;
 use crate::pvop_encode::inter_cbp;
 use crate::summary::Summary;
 use crate::texture::AcEvent;
+use hencouch::raw;
 
 const NAME: &str = "inter_cbp";
 
@@ -15,7 +15,7 @@ fn check(counts: &[u8; 6], salt: u8) -> Result<(), String> {
     let handed = *counts;
     let mut lent = Lent::<u8>::new(2, salt);
     let area: &mut [u8; 2] = lent.area().try_into().expect("an area of 2");
-    let got = library::inter_cbp(&handed, area);
+    let got = raw::inter_cbp(&handed, area);
     let event = AcEvent { last: true, run: 0, level: 1 };
     let events: Vec<Vec<AcEvent>> = counts.iter().map(|&n| vec![event; n.into()]).collect();
     let (luma, chroma) = inter_cbp(&events);

@@ -1,7 +1,7 @@
 //! Samples of several kinds to lend parts of, and small sources in them.
 
+use crate::ask::Source;
 use crate::damage::places;
-use crate::library::Source;
 use crate::pictures::{noise, smooth};
 use crate::random::Random;
 

@@ -1,6 +1,6 @@
 //! What a macroblock is coded against: predictions near the source and far from it.
 
-use crate::library::{Macroblock, Prediction, Source};
+use crate::ask::{Macroblock, Prediction, Source};
 use crate::random::Random;
 
 #[derive(Clone, Copy, PartialEq, Debug)]

@@ -3,9 +3,9 @@
 
 use super::generator;
 use super::lent::{EventsLent, Laid};
+use crate::ask::{self, Quantising};
 use crate::counted::{held as marks, strings, Counted, Mark};
 use crate::damage;
-use crate::library::{self, Quantising};
 use crate::options::Options;
 use crate::pvop_encode::{quantise_inter_block, quantise_inter_residual, rows_of, scan_of};
 use crate::random::Random;
@@ -74,11 +74,11 @@ impl Call {
         let (areas, counts) = lent.areas();
         let got = match self.function {
             Function::Block => {
-                library::quantise_inter_block(&self.residual, &quantising, areas, &mut counts[0])
+                ask::quantise_inter_block(&self.residual, &quantising, areas, &mut counts[0])
             }
             Function::Residual => {
                 let counts = counts.try_into().expect("six counts");
-                library::quantise_inter_residual(&self.residual, &quantising, areas, counts)
+                ask::quantise_inter_residual(&self.residual, &quantising, areas, counts)
             }
         };
         let wanted = if reply == 0 { Laid::out(&self.ask_original()) } else { Laid::default() };

@@ -4,7 +4,7 @@
 //! the quantiser; neither the source nor the prediction coded against. Its rounding type is 0. By
 //! the count of vectors the checker asks it for the blocks of four, or doesn't.
 
-use crate::library::Reference;
+use crate::ask::Reference;
 
 /// The three grids of document 01's scans, by number: at a row and a column the place in the scan.
 const GRIDS: [[[usize; 8]; 8]; 3] = [

@@ -4,10 +4,10 @@ use super::generator;
 use super::lent::lines;
 use super::planes::{chroma_places, place, Planes, KINDS};
 use super::predicted::{self, Predicted};
+use crate::ask::{self, Macroblock, Prediction, Source};
 use crate::counted::{held as marks, strings, Counted, Mark};
 use crate::damage::{self, bad_sides, beyond, places, too_short};
 use crate::guard::{held, Lent};
-use crate::library::{self, Macroblock, Prediction, Source};
 use crate::options::Options;
 use crate::pvop_encode::{blocks_of, macroblock_residual, prediction_of, view_of};
 use crate::random::Random;
@@ -66,7 +66,7 @@ impl Call<'_> {
     fn check(&self, reply: u8, salt: u8) -> Result<Vec<i32>, String> {
         let mut lent = Lent::<i32>::new(self.out_len, salt);
         let m = &self.macroblock;
-        let got = library::macroblock_residual(m, lent.area());
+        let got = ask::macroblock_residual(m, lent.area());
         let wanted = if reply == 0 { self.ask_original() } else { Vec::new() };
         held(&lent, got, reply, &wanted).map_err(|found| {
             format!("MISMATCH: {NAME}: {found}\nout_len: {}\n{}", self.out_len, text(m))

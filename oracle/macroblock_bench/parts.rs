@@ -2,7 +2,7 @@
 //! is timed at a time are all macroblocks of a picture in turn, so that none is met twice in a row.
 
 use super::{predictions, weights, works, Area, Predicted, Row, Still, Work, MACROBLOCKS};
-use crate::library::{self, Areas};
+use crate::ask::{self, Areas};
 use crate::pvop_encode::{intra_activity, source_luma_mb, view_of};
 use crate::search_bench::{Picture, PICTURES};
 use crate::table::{Over, Table};
@@ -77,7 +77,7 @@ fn activity(works: &[Work]) -> Times {
     let by_rattle = |k: usize| {
         let m = black_box(&works[k]).coding.macroblock();
         let mut sum = 0;
-        let reply = library::intra_activity(&m.source, m.column, m.row, &mut sum);
+        let reply = ask::intra_activity(&m.source, m.column, m.row, &mut sum);
         (reply, sum)
     };
     for k in 0..MACROBLOCKS {
@@ -95,7 +95,7 @@ fn activity(works: &[Work]) -> Times {
 fn residual(works: &[Work]) -> Times {
     let mut out = [0; 384];
     for work in works {
-        let reply = library::macroblock_residual(&work.coding.macroblock(), &mut out);
+        let reply = ask::macroblock_residual(&work.coding.macroblock(), &mut out);
         let wanted = work.coder.six_residuals();
         assert_eq!((reply, &out[..]), (0, &wanted[..]), "the sides differ: see make compare");
     }
@@ -104,7 +104,7 @@ fn residual(works: &[Work]) -> Times {
     };
     let rattle = |k: usize| {
         let macroblock = black_box(&works[k]).coding.macroblock();
-        black_box((library::macroblock_residual(&macroblock, &mut out), &out));
+        black_box((ask::macroblock_residual(&macroblock, &mut out), &out));
     };
     each(rust, rattle)
 }
@@ -117,7 +117,7 @@ fn events(works: &[Work]) -> Times {
         let Area { lasts, runs, levels, counts, .. } = area;
         let quantising = &works[k].coding.quantising;
         let areas = Areas { lasts, runs, levels };
-        library::quantise_inter_residual(black_box(&six[k]), quantising, areas, counts)
+        ask::quantise_inter_residual(black_box(&six[k]), quantising, areas, counts)
     };
     for (k, work) in works.iter().enumerate() {
         let reply = ask(k, &mut area);

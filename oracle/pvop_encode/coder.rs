@@ -6,7 +6,7 @@ use super::{
     inter_cbp, macroblock_residual, quantise_inter_residual, AcEvent, FrameView,
     MacroblockResidual, MotionVector, Place, ScanType,
 };
-use crate::library::{Coding, Macroblock, Prediction, Quantising, Source};
+use crate::ask::{Coding, Macroblock, Prediction, Quantising, Source};
 use crate::reconstruct::InterPredictionMacroblock;
 
 /// The six blocks of a macroblock, four of luma and two of chroma, each by rows.

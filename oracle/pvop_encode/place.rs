@@ -5,8 +5,8 @@ use super::{
     sad_full_pel_block8, sad_subpel, sad_subpel_block8, source_luma_mb, units_per_pel,
     BVopSampleMode, FrameView, MotionVector,
 };
+use crate::ask::{Reference, Search, Source};
 use crate::half_sample::ReferenceVop;
-use crate::library::{Reference, Search, Source};
 
 /// What a sum is taken over: the macroblock, or one of its four blocks.
 #[derive(Clone, Copy, PartialEq)]

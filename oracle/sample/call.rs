@@ -1,7 +1,7 @@
 //! One call of either interpolation: its arguments, and how each side is asked.
 
+use crate::ask::{self, Block, Reference};
 use crate::half_sample::{self, ReferenceVop};
-use crate::library::{self, Block, Reference};
 use crate::quarter_sample;
 use std::fmt;
 
@@ -42,8 +42,8 @@ pub struct Call<'a> {
 impl Call<'_> {
     pub fn ask_library(&self, out: &mut [u8]) -> u8 {
         match self.function {
-            Function::Half => library::interpolate_block_into(&self.reference, &self.block, out),
-            Function::Quarter => library::interpolate_block_qpel_into(
+            Function::Half => ask::interpolate_block_into(&self.reference, &self.block, out),
+            Function::Quarter => ask::interpolate_block_qpel_into(
                 &self.reference,
                 &self.block,
                 self.bits_per_pixel,

@@ -3,8 +3,8 @@
 
 use super::call::{Call, Function};
 use super::refusal;
+use crate::ask::{Block, Reference};
 use crate::damage::{beyond_32_bits, bits, cut, geometry};
-use crate::library::{Block, Reference};
 use crate::random::Random;
 
 /// Room for every plane used here, too long ones of a bad geometry included.

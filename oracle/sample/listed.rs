@@ -4,7 +4,7 @@
 use super::call::{Call, Function};
 use super::check::check;
 use super::refusal;
-use crate::library::{Block, Reference};
+use crate::ask::{Block, Reference};
 use crate::random::Random;
 
 type Case = (&'static str, u8, fn(&mut Call));

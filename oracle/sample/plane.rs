@@ -1,6 +1,6 @@
 //! Random reference planes: shapes from one sample to the largest, and several sorts of contents.
 
-use crate::library::Reference;
+use crate::ask::Reference;
 use crate::random::Random;
 
 pub const SHAPES: [&str; 8] =

@@ -2,8 +2,8 @@
 //! every reason that a call gives is worked out, and the reply is the first of them.
 
 use super::call::{Call, Function};
+use crate::ask::Block;
 use crate::damage::{bad_geometry, last_sample};
-use crate::library::Block;
 
 /// The numbers that can occur, in the order in which they are looked at.
 pub fn numbers(function: Function) -> &'static [u8] {

@@ -2,7 +2,7 @@
 
 use super::call::{Call, Function};
 use super::plane::Plane;
-use crate::library::Block;
+use crate::ask::Block;
 use crate::random::Random;
 
 /// `largest` is the largest sample of the plane.

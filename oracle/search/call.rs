@@ -1,6 +1,6 @@
 //! One call of either search: its arguments, and how each side is asked.
 
-use crate::library::{self, Search};
+use crate::ask::{self, Search};
 use crate::motion::MotionVector;
 use crate::pvop_encode::{Part, Place};
 use std::fmt;
@@ -61,8 +61,8 @@ impl<'a> Call<'a> {
 
     pub fn ask_library(&self, vectors: &mut [i32], sums: &mut [u32]) -> u8 {
         match self.function {
-            Function::One => library::estimate_motion(&self.search, vectors, sums),
-            Function::Four => library::estimate_motion_4mv(&self.search, self.seed, vectors, sums),
+            Function::One => ask::estimate_motion(&self.search, vectors, sums),
+            Function::Four => ask::estimate_motion_4mv(&self.search, self.seed, vectors, sums),
         }
     }
 

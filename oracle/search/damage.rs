@@ -3,8 +3,8 @@
 
 use super::call::{Call, Function};
 use super::refusal;
+use crate::ask::{Reference, Search, Source};
 use crate::damage::{bits, cut, fcode, geometry, mode, place, shorten, sides};
-use crate::library::{Reference, Search, Source};
 use crate::random::Random;
 
 /// Room for every picture used here, too large ones of bad sides included.

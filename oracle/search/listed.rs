@@ -4,7 +4,7 @@
 use super::call::{Answer, Call, Function};
 use super::check::check;
 use super::refusal;
-use crate::library::{Reference, Search, Source};
+use crate::ask::{Reference, Search, Source};
 use crate::random::Random;
 
 type Case = (&'static str, u8, fn(&mut Call));

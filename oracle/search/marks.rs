@@ -6,7 +6,7 @@ use super::form;
 use super::refusal;
 use super::scene::Scene;
 use super::shape::SHAPES;
-use crate::library::{Reference, Search};
+use crate::ask::{Reference, Search};
 
 const SETTINGS: &str = "mode and fcode";
 const BITS: &str = "bits per pixel";

@@ -2,7 +2,7 @@
 
 use super::contents::{self, Kind, KINDS};
 use super::shape::{Sizes, SHAPES};
-use crate::library::{Reference, Source};
+use crate::ask::{Reference, Source};
 use crate::random::Random;
 
 /// Bytes around lent samples. They are noise, so that a read past either end shows.

@@ -3,7 +3,7 @@
 use super::call::{Call, Function};
 use super::refusal;
 use super::scene::Scene;
-use crate::library::Search;
+use crate::ask::Search;
 use crate::random::Random;
 
 pub fn call<'a>(function: Function, scene: &'a Scene, random: &mut Random) -> Call<'a> {

@@ -4,12 +4,12 @@
 
 use super::call::Call;
 use super::reasons::macroblocks;
+use crate::ask::{Coding, Prediction, Quantising, Reference, Search, Source};
 use crate::bvop_prediction::BVopSampleMode;
 use crate::fdct::forward_dct_8x8;
 use crate::half_sample::{self, ReferenceVop};
 use crate::inverse_quant::{inverse_quant_method2_coef, saturate_fprime};
 use crate::ivop_encode::{self, FrameView};
-use crate::library::{Coding, Prediction, Quantising, Reference, Search, Source};
 use crate::motion::MotionVector;
 use crate::pvop_encode::{self, rows_of, scan_of, Coder, Part, Place};
 use crate::quantise::{quantise_method1_inter, quantise_method2_inter};

@@ -3,14 +3,14 @@
 
 use crate::fdct;
 use crate::guard::Lent;
-use crate::library;
+use hencouch::raw;
 
 /// Holds the library to `reply`: 0 with the original's coefficients, which are handed back, or a
 /// refusal with nothing written.
 pub fn check(residual: &[i32], out_len: usize, reply: u8, salt: u8) -> Result<Vec<i32>, String> {
     let handed = residual.to_vec();
     let mut lent = Lent::<i32>::new(out_len, salt);
-    let got = library::forward_dct_8x8(&handed, lent.area());
+    let got = raw::forward_dct_8x8(&handed, lent.area());
     let found = if got != reply {
         format!("reply {got}, wanted {reply}")
     } else if handed != residual {

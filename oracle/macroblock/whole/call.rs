@@ -1,6 +1,6 @@
 //! One call of the entry that searches and codes, and how the originals are asked.
 
-use crate::library::Coding;
+use crate::ask::Coding;
 use crate::macroblock::lent::{lines, Laid};
 use crate::macroblock::residual;
 use crate::pvop_encode::{Coder, Part};

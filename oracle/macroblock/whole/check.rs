@@ -2,8 +2,8 @@
 //! around each are compared; the error is the text of the first difference, with the whole input.
 
 use super::call::{Answer, Call};
+use crate::ask::{self, Areas, Record};
 use crate::guard::{held, Lent};
-use crate::library::{self, Areas, Record};
 use crate::macroblock::lent::{named, EventsLent};
 use crate::random::Random;
 
@@ -51,7 +51,7 @@ impl RecordLent {
 /// Holds the library to `reply`: 0 with the originals' answer, which is handed back, or a refusal
 /// with nothing written.
 pub fn check(call: &Call, reply: u8, random: &mut Random) -> Result<Answer, String> {
-    let ask = |areas: Areas, record: Record| library::code_macroblock(&call.coding, areas, record);
+    let ask = |areas: Areas, record: Record| ask::code_macroblock(&call.coding, areas, record);
     check_by(ask, call, reply, random)
 }
 

@@ -3,8 +3,8 @@
 
 use super::call::Call;
 use super::refusal::NUMBERS;
+use crate::ask::{Coding, Macroblock, Prediction, Quantising, Reference, Search, Source};
 use crate::damage::{bits, cut, fcode, geometry, mode, place, quantiser, scan, sides};
-use crate::library::{Coding, Macroblock, Prediction, Quantising, Reference, Search, Source};
 use crate::macroblock::planes::Planes;
 use crate::macroblock::residual::{lengths, shorten};
 use crate::random::Random;

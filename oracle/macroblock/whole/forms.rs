@@ -3,8 +3,8 @@
 //! of the search are counted where the searches are compared.
 
 use super::call::{Answer, Call};
+use crate::ask::{Coding, Prediction, Source};
 use crate::counted::Counted;
-use crate::library::{Coding, Prediction, Source};
 use crate::macroblock::lent::Laid;
 use crate::motion::MotionVector;
 use crate::pvop_encode::{prediction_of, Coder};

@@ -2,8 +2,8 @@
 //! library: every reason that a call gives is worked out, and the reply is the first of them.
 
 use super::call::Call;
+use crate::ask::Coding;
 use crate::damage::{bad_geometry, last_sample};
-use crate::library::Coding;
 use crate::macroblock::residual::{bad_lengths, source_reasons};
 
 /// The numbers that can occur, in the order in which they are looked at.

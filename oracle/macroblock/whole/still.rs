@@ -1,6 +1,6 @@
 //! A scene of the searches with chroma planes beside its luma.
 
-use crate::library::Source;
+use crate::ask::Source;
 use crate::pictures::{noise, smooth};
 use crate::random::Random;
 use crate::search::scene::{Lending, Scene};

@@ -1,7 +1,7 @@
 //! Random calls with nothing wrong.
 
 use super::still::Still;
-use crate::library::{Coding, Macroblock, Prediction, Quantising};
+use crate::ask::{Coding, Macroblock, Prediction, Quantising};
 use crate::macroblock::predicted::Predicted;
 use crate::macroblock::quantising;
 use crate::random::Random;

@@ -1,14 +1,7 @@
-//! The entries for one macroblock in safe form.
+//! The arguments of the entries for one macroblock, and of a run's step.
 
-use super::{raw, Search, Source};
-
-/// What a macroblock is coded against: 256 samples of luma, 64 of each chroma.
-#[derive(Clone, Copy)]
-pub struct Prediction<'a> {
-    pub y: &'a [u8],
-    pub cb: &'a [u8],
-    pub cr: &'a [u8],
-}
+use super::{Search, Source};
+use hencouch::{raw, Areas, Prediction};
 
 /// A macroblock of a source picture, whose chroma sides are half the luma's, rounded up.
 #[derive(Clone, Copy)]
@@ -50,13 +43,6 @@ impl<'a> Coding<'a> {
     }
 }
 
-/// Areas lent for events, 64 entries a block.
-pub struct Areas<'a> {
-    pub lasts: &'a mut [u8],
-    pub runs: &'a mut [u8],
-    pub levels: &'a mut [i32],
-}
-
 /// Areas lent for a macroblock's record: vectors horizontal first, patterns luma first.
 pub struct Record<'a> {
     pub vector: &'a mut [i32; 2],
@@ -66,6 +52,9 @@ pub struct Record<'a> {
     pub patterns: &'a mut [u8; 2],
     pub counts: &'a mut [u8; 6],
 }
+
+/// Width, height, macroblocks given, their events, their one-vector sums. Nothing checks them.
+pub type Run = [u64; 5];
 
 /// How far a macroblock's luma lies from its mean.
 pub fn intra_activity(source: &Source, column: usize, row: usize, activity: &mut u32) -> u8 {
@@ -144,6 +133,44 @@ pub fn code_macroblock(c: &Coding, out: Areas, record: Record) -> u8 {
         source.height,
         column,
         row,
+        weights,
+        c.prediction.y,
+        c.prediction.cb,
+        c.prediction.cr,
+        out.lasts,
+        out.runs,
+        out.levels,
+        record.vector,
+        record.sum,
+        record.four_vectors,
+        record.four_sums,
+        record.patterns,
+        record.counts,
+    )
+}
+
+/// Searches for the run's next macroblock and codes it: the place is the run's, not `c`'s.
+pub fn step(run: &mut Run, c: &Coding, out: Areas, record: Record) -> u8 {
+    let Search { source, reference, mode, bits_per_pixel, fcode, .. } = c.search;
+    let Quantising { quantiser, first_method, weights, scan } = c.quantising;
+    raw::step(
+        run,
+        fcode,
+        mode,
+        bits_per_pixel,
+        quantiser,
+        first_method,
+        c.vectors,
+        scan,
+        reference.samples,
+        reference.width,
+        reference.height,
+        reference.stride,
+        source.samples,
+        c.cb,
+        c.cr,
+        source.width,
+        source.height,
         weights,
         c.prediction.y,
         c.prediction.cb,

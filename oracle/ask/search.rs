@@ -1,6 +1,6 @@
-//! The two searches in safe form.
+//! The arguments of the two searches.
 
-use super::{raw, Reference};
+use hencouch::{raw, Reference};
 
 /// A source picture's luma, its rows following each other directly.
 #[derive(Clone, Copy)]

@@ -1,29 +1,17 @@
-//! The static library's functions in safe form. Those with many arguments take them as structs.
+//! The arguments of generated calls, which may be wrong in any way, as structs, and how they are
+//! handed to the library: by `hencouch::raw`, which has every entry argument by argument.
 
 mod macroblock;
-mod raw;
-mod run;
 mod search;
 
+use hencouch::raw;
+
+pub use hencouch::{Areas, Prediction, Reference};
 pub use macroblock::{
     code_macroblock, intra_activity, macroblock_residual, quantise_inter_block,
-    quantise_inter_residual, Areas, Coding, Macroblock, Prediction, Quantising, Record,
+    quantise_inter_residual, step, Coding, Macroblock, Quantising, Record, Run,
 };
-pub use raw::{
-    forward_dct_8x8, forward_scan, inter_cbp, inverse_block, inverse_scan, levels_to_events,
-    quantise_block,
-};
-pub use run::{close, open, step, Run, Totals};
 pub use search::{estimate_motion, estimate_motion_4mv, Search, Source};
-
-/// A reference plane as the library takes it: samples and geometry, unchecked.
-#[derive(Clone, Copy)]
-pub struct Reference<'a> {
-    pub samples: &'a [u8],
-    pub width: usize,
-    pub height: usize,
-    pub stride: usize,
-}
 
 /// The block to predict: its vector, its place in the picture, its sides, the rounding type.
 #[derive(Clone, Copy)]

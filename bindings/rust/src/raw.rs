@@ -1,0 +1,200 @@
+//! Every C entry, argument by argument, in the order of `include/hencouch.h`, and all of the crate
+//! that is `unsafe`. Each function here answers as its entry does: 0, or the number of the refusal.
+//!
+//! What the entry takes as a pointer and a length is a slice, whose length is handed over as it is:
+//! a wrong one is refused with 12. What it takes as a bare pointer is a reference to a number or to
+//! an array of the declared length. No two of them overlap where one is written, since they are
+//! borrowed. So every call is sound, and every reply of the entry can be had here.
+//!
+//! Nothing checks these declarations against the library: they, `include/hencouch.h` and the
+//! library's own functions are kept alike by hand, and by the stored calls that the tests replay.
+//!
+//! ```
+//! let residual = [1; 64];
+//! let mut out = [0; 64];
+//! assert_eq!(hencouch::raw::forward_dct_8x8(&residual, &mut out), 0);
+//! assert_eq!(out[..2], [8, 0]);
+//! assert_eq!(hencouch::raw::forward_dct_8x8(&residual[..63], &mut out), 12);
+//! ```
+
+// Numbers of the library's `size_t` and `uint64_t` pass for each other.
+const _: () = assert!(usize::BITS == 64, "the library is for x86-64");
+
+#[link(name = "hencouch", kind = "static")]
+extern "C" {}
+
+/// Declares an entry, and the function that calls it: what the entry `reads` or `writes` with a
+/// length is a slice, and any other argument is handed over as it is.
+macro_rules! entry {
+    (@ [$($doc:tt)*] $name:ident $symbol:ident [$($c:tt)*] [$($safe:tt)*] [$($pass:tt)*]) => {
+        $($doc)*
+        #[inline]
+        #[allow(clippy::too_many_arguments)]
+        pub fn $name($($safe)*) -> u8 {
+            extern "C" {
+                fn $symbol($($c)*) -> u8;
+            }
+            // SAFETY: each pointer is a live slice's, handed over with its length, or a live
+            // reference to as many elements as the entry is declared to take. The entry reads and
+            // writes within them alone, keeps none of them, and judges every number itself.
+            unsafe { $symbol($($pass)*) }
+        }
+    };
+    (@ $doc:tt $name:ident $symbol:ident [$($c:tt)*] [$($safe:tt)*] [$($pass:tt)*]
+        reads $area:ident: $sort:ty, $($rest:tt)*) => {
+        entry!(@ $doc $name $symbol [$($c)* $area: *const $sort, _: usize,]
+            [$($safe)* $area: &[$sort],] [$($pass)* $area.as_ptr(), $area.len(),] $($rest)*);
+    };
+    (@ $doc:tt $name:ident $symbol:ident [$($c:tt)*] [$($safe:tt)*] [$($pass:tt)*]
+        writes $area:ident: $sort:ty, $($rest:tt)*) => {
+        entry!(@ $doc $name $symbol [$($c)* $area: *mut $sort, _: usize,]
+            [$($safe)* $area: &mut [$sort],] [$($pass)* $area.as_mut_ptr(), $area.len(),]
+            $($rest)*);
+    };
+    (@ $doc:tt $name:ident $symbol:ident [$($c:tt)*] [$($safe:tt)*] [$($pass:tt)*]
+        $number:ident: $sort:ty $(, $($rest:tt)*)?) => {
+        entry!(@ $doc $name $symbol [$($c)* $number: $sort,]
+            [$($safe)* $number: $sort,] [$($pass)* $number,] $($($rest)*)?);
+    };
+    ($(#[$doc:meta])* $name:ident = $symbol:ident { $($arguments:tt)* }) => {
+        entry!(@ [$(#[$doc])*] $name $symbol [] [] [] $($arguments)*);
+    };
+}
+
+entry!(
+/// [`crate::interpolate_block_into`]'s entry: 4, 5, 8, 12, 14.
+interpolate_block_into = hencouch_interpolate_block_into {
+    reads samples: u8, width: usize, height: usize, stride: usize,
+    mv_x: i32, mv_y: i32, origin_x: i32, origin_y: i32,
+    block_w: usize, block_h: usize, rounding: u8,
+    writes out: u8,
+});
+
+entry!(
+/// [`crate::interpolate_block_qpel_into`]'s entry: 3, 4, 5, 8, 12, 14.
+interpolate_block_qpel_into = hencouch_interpolate_block_qpel_into {
+    reads samples: u8, width: usize, height: usize, stride: usize,
+    mv_x: i32, mv_y: i32, origin_x: i32, origin_y: i32,
+    block_w: usize, block_h: usize, rounding: u8, bits_per_pixel: u32,
+    writes out: u8,
+});
+
+entry!(
+/// [`crate::forward_dct_8x8`]'s entry: 12, 13.
+forward_dct_8x8 = hencouch_forward_dct_8x8 { reads residual: i32, writes out: i32, });
+
+entry!(
+/// [`crate::quantise_block`]'s entry: 10, 11, 12, 13. Any `first_method` but 0 is the first.
+quantise_block = hencouch_quantise_block {
+    reads coefficients: i32, quantiser: u32, first_method: u8, reads weights: u8,
+    writes out: i32,
+});
+
+entry!(
+/// [`crate::inverse_block`]'s entry: 10, 12, 13.
+inverse_block = hencouch_inverse_block { reads levels: i32, quantiser: u32, writes out: i32, });
+
+entry!(
+/// [`crate::forward_scan`]'s entry: 12, 13, 14.
+forward_scan = hencouch_forward_scan { reads levels: i32, scan: u32, writes out: i32, });
+
+entry!(
+/// [`crate::inverse_scan`]'s entry: 12, 13, 14.
+inverse_scan = hencouch_inverse_scan { reads levels: i32, scan: u32, writes out: i32, });
+
+entry!(
+/// [`crate::levels_to_events`]'s entry: 12, 13.
+levels_to_events = hencouch_levels_to_events {
+    reads levels: i32,
+    writes lasts: u8, writes runs: u8, writes out_levels: i32, count: &mut u8,
+});
+
+entry!(
+/// [`crate::estimate_motion`]'s entry: 1 to 8, and 12 where `vector` is not 2 long or `sum` not 1.
+estimate_motion = hencouch_estimate_motion {
+    reads source: u8, width: usize, height: usize, column: usize, row: usize,
+    reads reference: u8, ref_width: usize, ref_height: usize, stride: usize,
+    mode: u32, bits_per_pixel: u32, fcode: u32,
+    writes vector: i32, writes sum: u32,
+});
+
+entry!(
+/// [`crate::estimate_motion_4mv`]'s entry: 1 to 9, and 12 where `vectors` is not 8 long or `sums`
+/// not 4.
+estimate_motion_4mv = hencouch_estimate_motion_4mv {
+    reads source: u8, width: usize, height: usize, column: usize, row: usize,
+    reads reference: u8, ref_width: usize, ref_height: usize, stride: usize,
+    mode: u32, bits_per_pixel: u32, fcode: u32, seed_x: i32, seed_y: i32,
+    writes vectors: i32, writes sums: u32,
+});
+
+entry!(
+/// [`crate::intra_activity`]'s entry: 6, 7, 8.
+intra_activity = hencouch_intra_activity {
+    reads source: u8, width: usize, height: usize, column: usize, row: usize,
+    activity: &mut u32,
+});
+
+entry!(
+/// [`crate::macroblock_residual`]'s entry: 6, 7, 8, 12.
+macroblock_residual = hencouch_macroblock_residual {
+    reads y: u8, reads cb: u8, reads cr: u8, width: usize, height: usize,
+    column: usize, row: usize,
+    reads pred_y: u8, reads pred_cb: u8, reads pred_cr: u8,
+    writes out: i32,
+});
+
+entry!(
+/// [`crate::quantise_inter_block`]'s entry: 10 to 14. Any `first_method` but 0 is the first.
+quantise_inter_block = hencouch_quantise_inter_block {
+    reads residual: i32, quantiser: u32, first_method: u8, reads weights: u8, scan: u32,
+    writes lasts: u8, writes runs: u8, writes levels: i32, count: &mut u8,
+});
+
+entry!(
+/// [`crate::quantise_inter_residual`]'s entry: 10 to 14. Any `first_method` but 0 is the first.
+quantise_inter_residual = hencouch_quantise_inter_residual {
+    reads residual: i32, quantiser: u32, first_method: u8, reads weights: u8, scan: u32,
+    writes lasts: u8, writes runs: u8, writes levels: i32, counts: &mut [u8; 6],
+});
+
+entry!(
+/// [`crate::inter_cbp`]'s entry, which is never refused.
+inter_cbp = hencouch_inter_cbp { counts: &[u8; 6], patterns: &mut [u8; 2] });
+
+entry!(
+/// [`crate::code_macroblock`]'s entry: 1 to 8, 10, 11, 12, 14. Any `first_method` but 0 is the first.
+code_macroblock = hencouch_code_macroblock {
+    fcode: u32, mode: u32, bits_per_pixel: u32, quantiser: u32, first_method: u8,
+    vectors: u32, scan: u32,
+    reads reference: u8, ref_width: usize, ref_height: usize, stride: usize,
+    reads y: u8, reads cb: u8, reads cr: u8, width: usize, height: usize,
+    column: usize, row: usize,
+    reads weights: u8, reads pred_y: u8, reads pred_cb: u8, reads pred_cr: u8,
+    writes lasts: u8, writes runs: u8, writes levels: i32,
+    vector: &mut [i32; 2], sum: &mut u32, four_vectors: &mut [i32; 8], four_sums: &mut [u32; 4],
+    patterns: &mut [u8; 2], counts: &mut [u8; 6],
+});
+
+entry!(
+/// [`crate::Run::open`]'s entry: 6.
+open = hencouch_open { width: usize, height: usize, run: &mut [u64; 5] });
+
+entry!(
+/// [`crate::Run::step`]'s entry: 21, 22, then 1 to 7, 10, 11, 12, 14. Any `first_method` but 0 is
+/// the first.
+step = hencouch_step {
+    run: &mut [u64; 5],
+    fcode: u32, mode: u32, bits_per_pixel: u32, quantiser: u32, first_method: u8,
+    vectors: u32, scan: u32,
+    reads reference: u8, ref_width: usize, ref_height: usize, stride: usize,
+    reads y: u8, reads cb: u8, reads cr: u8, width: usize, height: usize,
+    reads weights: u8, reads pred_y: u8, reads pred_cb: u8, reads pred_cr: u8,
+    writes lasts: u8, writes runs: u8, writes levels: i32,
+    vector: &mut [i32; 2], sum: &mut u32, four_vectors: &mut [i32; 8], four_sums: &mut [u32; 4],
+    patterns: &mut [u8; 2], counts: &mut [u8; 6],
+});
+
+entry!(
+/// [`crate::Run::close`]'s entry: 23.
+close = hencouch_close { run: &[u64; 5], totals: &mut [u64; 3] });
