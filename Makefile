@@ -92,6 +92,10 @@ help:
 	@echo 'make sample                makes the clip of make run anew'
 	@echo 'make call                  a C program and a Rust one that call the library and hold it to answers'
 	@echo '                           they name; README.md shows their lines, and is held to them'
+	@echo 'make bindings              the tests of the Rust crate in bindings/rust, over the library'
+	@echo 'make install PREFIX=FOLDER lib/libhencouch.a, include/hencouch.h and lib/pkgconfig/hencouch.pc in'
+	@echo '                           FOLDER (/usr/local); DESTDIR goes before it'
+	@echo 'make install-check         a C program and a Rust one built by pkg-config over an install in target/'
 	@echo 'make named-files           whether the files of crates that README.md and docs/ name are there'
 	@echo 'FOLDER has the originals as src/src/half_sample.rs and so on. ARGS="--seed N --valid N'
 	@echo '--refused N" gives compare another seed and other counts.'
@@ -235,6 +239,44 @@ readme-lines:
 	@diff target/call/shown.rs target/call/readme.rs || { echo 'README.md has other lines of Rust than bindings/rust/examples/call.rs' >&2; exit 1; }
 	@sed -n '/^    $$ make run$$/,/^$$/s/^    \([0-9]\)/\1/p' README.md | diff crates/broodline/stdout - || { echo 'README.md has other lines of broodline than crates/broodline/stdout' >&2; exit 1; }
 	@test -s target/call/readme.c -a -s target/call/readme.rs || { echo 'README.md shows no lines of C or Rust' >&2; exit 1; }
+
+.PHONY: bindings install install-check
+
+# The crate's tests: its examples in the documentation, its numbers, and the stored calls replayed.
+bindings: $(LIBRARY)
+	cd bindings/rust && HENCOUCH_LIB_DIR=$(abspath $(LIBDIR)) cargo test --offline --target-dir $(CURDIR)/target/bindings
+	cd bindings/rust && HENCOUCH_LIB_DIR=$(abspath $(LIBDIR)) RUSTDOCFLAGS='-D warnings' \
+	  cargo doc --offline --no-deps --target-dir $(CURDIR)/target/bindings
+
+# Where make install puts the library, the header and what pkg-config says of them.
+PREFIX ?= /usr/local
+DESTDIR ?=
+VERSION = $(shell sed -n 's/^version = "\(.*\)"/\1/p' bindings/rust/Cargo.toml)
+INSTALLED = $(DESTDIR)$(abspath $(PREFIX))
+
+install: $(LIBRARY)
+	install -d $(INSTALLED)/lib/pkgconfig $(INSTALLED)/include
+	install -m 644 $(LIBRARY) $(INSTALLED)/lib/libhencouch.a
+	install -m 644 include/hencouch.h $(INSTALLED)/include/hencouch.h
+	sed -e 's|@PREFIX@|$(abspath $(PREFIX))|' -e 's|@VERSION@|$(VERSION)|' bindings/hencouch.pc.in \
+	  > $(INSTALLED)/lib/pkgconfig/hencouch.pc
+
+# An install, and a staged one, below target/: the programs of make call, built by what pkg-config
+# says of the first and by nothing else.
+INSTALL_CHECK := $(CURDIR)/target/installed
+ASKED := PKG_CONFIG_LIBDIR=$(INSTALL_CHECK)/there/lib/pkgconfig pkg-config
+install-check: $(LIBRARY)
+	rm -rf $(INSTALL_CHECK)
+	$(MAKE) install PREFIX=$(INSTALL_CHECK)/there DESTDIR=
+	test "$$($(ASKED) --modversion hencouch)" = '$(VERSION)'
+	$(CC) -std=c99 -Wall -Wextra -O2 -o $(INSTALL_CHECK)/from_c oracle/call.c $$($(ASKED) --cflags --libs hencouch)
+	$(INSTALL_CHECK)/from_c
+	cd bindings/rust && unset HENCOUCH_LIB_DIR && PKG_CONFIG_LIBDIR=$(INSTALL_CHECK)/there/lib/pkgconfig \
+	  cargo run --offline --example call --target-dir $(INSTALL_CHECK)/cargo
+	grep -rq '$(INSTALL_CHECK)/there/lib' $(INSTALL_CHECK)/cargo/debug/build/hencouch-*/output
+	$(MAKE) install PREFIX=/usr DESTDIR=$(INSTALL_CHECK)/staged
+	cd $(INSTALL_CHECK)/staged/usr && test -s lib/libhencouch.a -a -s include/hencouch.h
+	grep -qx 'prefix=/usr' $(INSTALL_CHECK)/staged/usr/lib/pkgconfig/hencouch.pc
 
 # The files of crates that README.md and docs/ name by crate and folder have to be there.
 named-files:
