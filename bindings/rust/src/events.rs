@@ -1,6 +1,6 @@
 //! Scans, and the events of scanned levels.
 
-use crate::refusal::done;
+use crate::refusal::{done, never_refused};
 use crate::{raw, Refusal};
 
 /// Areas lent for events: 64 entries for a block, six times as many for a macroblock, whose block b
@@ -113,4 +113,19 @@ pub fn levels_to_events(levels: &[i32], areas: Areas) -> Result<u8, Refusal> {
     let mut count = 0;
     done(raw::levels_to_events(levels, areas.lasts, areas.runs, areas.levels, &mut count))?;
     Ok(count)
+}
+
+/// The scan of inter blocks: [`crate::ALTERNATE_VERTICAL`] where `interlaced` and `alternate_scan`
+/// are both set, else [`crate::ZIGZAG`]. Never refused.
+///
+/// ```
+/// use hencouch::{inter_scan, ALTERNATE_VERTICAL, ZIGZAG};
+///
+/// assert_eq!(inter_scan(true, true), ALTERNATE_VERTICAL);
+/// assert_eq!(inter_scan(false, true), ZIGZAG);
+/// ```
+pub fn inter_scan(interlaced: bool, alternate_scan: bool) -> u32 {
+    let mut scan = 0;
+    never_refused(raw::inter_scan(interlaced.into(), alternate_scan.into(), &mut scan));
+    scan
 }

@@ -9,12 +9,13 @@
 //!
 //! | to | there are |
 //! |---|---|
-//! | predict samples | [`interpolate_block_into`], [`interpolate_block_qpel_into`] |
+//! | read a picture | [`fetch_clamped`], [`copy_block`] of a reference; [`source_luma_block`], [`source_chroma_block`] of the picture that is coded |
+//! | predict luma | [`predict_luma_macroblock`], [`predict_luma_macroblock_4mv`], [`predict_luma_block`]; below them [`interpolate_block_into`] and [`interpolate_block_qpel_into`], [`split_half_pel`] and [`split_quarter_pel`], [`interpolate_pixel`] |
 //! | search | [`estimate_motion`], [`estimate_motion_4mv`] |
-//! | code a block | [`forward_dct_8x8`], [`quantise_block`], [`forward_scan`], [`levels_to_events`]; [`quantise_inter_block`] does all four |
+//! | code a block | [`forward_dct_8x8`], [`quantise_block`], [`forward_scan`], [`levels_to_events`]; [`quantise_inter_block`] does all four; [`inter_scan`] chooses the scan |
 //! | undo it | [`inverse_scan`], [`inverse_block`] |
 //! | code a macroblock | [`macroblock_residual`], [`quantise_inter_residual`], [`inter_cbp`], [`intra_activity`]; [`code_macroblock`] searches and codes |
-//! | code a picture | [`Run::open`], [`Run::step`], [`Run::close`] |
+//! | code a picture | [`Run::open`], [`Run::next_place`], [`Run::step`], [`Run::close`] |
 //!
 //! ```
 //! use hencouch::{estimate_motion, Mode, MotionVector, Place, Reference, Refusal, Search, Source};
@@ -35,14 +36,17 @@
 //! Linking: the library is taken from the folder `HENCOUCH_LIB_DIR`; without it from where
 //! pkg-config has `hencouch` installed; else from `target/staticlib` of the repository that this
 //! crate stands in, where `make staticlib` writes it. It is for x86-64.
+//!
+//! The licence is MIT, as `NOTICE` in the repository has it.
 
-#![deny(missing_docs)]
-#![deny(unsafe_op_in_unsafe_fn)]
+#![deny(missing_docs, unsafe_code)]
 
 mod arguments;
 mod events;
 mod levels;
 mod macroblock;
+mod prediction;
+#[allow(unsafe_code)]
 pub mod raw;
 mod refusal;
 mod run;
@@ -53,13 +57,20 @@ pub use arguments::{
     Mode, MotionVector, Place, Point, Prediction, Quantising, Reference, Source,
     ALTERNATE_HORIZONTAL, ALTERNATE_VERTICAL, HALF, NO_WEIGHTS, QUARTER, ZIGZAG,
 };
-pub use events::{forward_scan, inverse_scan, levels_to_events, Areas, Events};
+pub use events::{forward_scan, inter_scan, inverse_scan, levels_to_events, Areas, Events};
 pub use levels::{forward_dct_8x8, inverse_block, quantise_block};
 pub use macroblock::{
     code_macroblock, inter_cbp, intra_activity, macroblock_residual, quantise_inter_block,
     quantise_inter_residual, Patterns, Record, Settings,
 };
+pub use prediction::{
+    predict_luma_block, predict_luma_macroblock, predict_luma_macroblock_4mv, source_chroma_block,
+    source_luma_block,
+};
 pub use refusal::Refusal;
 pub use run::{Run, Totals};
-pub use sample::{interpolate_block_into, interpolate_block_qpel_into, Block};
+pub use sample::{
+    copy_block, fetch_clamped, interpolate_block_into, interpolate_block_qpel_into,
+    interpolate_pixel, split_half_pel, split_quarter_pel, Block, HalfPel, QuarterPel,
+};
 pub use search::{estimate_motion, estimate_motion_4mv, Estimated, EstimatedFour, Search};

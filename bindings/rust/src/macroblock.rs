@@ -1,6 +1,6 @@
 //! A macroblock: its activity, its residual, its events, and the entry that searches and codes.
 
-use crate::refusal::done;
+use crate::refusal::{done, never_refused};
 use crate::search::{vector_of, vectors_of};
 use crate::{raw, Areas, Mode, MotionVector, Place, Prediction, Quantising};
 use crate::{Reference, Refusal, Source};
@@ -157,17 +157,10 @@ pub fn quantise_inter_block(
 ) -> Result<u8, Refusal> {
     let Quantising { quantiser, first_method, weights, scan } = *quantising;
     let Areas { lasts, runs, levels } = areas;
+    let first_method = first_method.into();
     let mut count = 0;
     done(raw::quantise_inter_block(
-        residual,
-        quantiser,
-        first_method.into(),
-        weights,
-        scan,
-        lasts,
-        runs,
-        levels,
-        &mut count,
+        residual, quantiser, first_method, weights, scan, lasts, runs, levels, &mut count,
     ))?;
     Ok(count)
 }
@@ -199,17 +192,10 @@ pub fn quantise_inter_residual(
 ) -> Result<[u8; 6], Refusal> {
     let Quantising { quantiser, first_method, weights, scan } = *quantising;
     let Areas { lasts, runs, levels } = areas;
+    let first_method = first_method.into();
     let mut counts = [0; 6];
     done(raw::quantise_inter_residual(
-        residual,
-        quantiser,
-        first_method.into(),
-        weights,
-        scan,
-        lasts,
-        runs,
-        levels,
-        &mut counts,
+        residual, quantiser, first_method, weights, scan, lasts, runs, levels, &mut counts,
     ))?;
     Ok(counts)
 }
@@ -222,8 +208,7 @@ pub fn quantise_inter_residual(
 /// ```
 pub fn inter_cbp(counts: [u8; 6]) -> Patterns {
     let mut patterns = [0; 2];
-    let reply = raw::inter_cbp(&counts, &mut patterns);
-    debug_assert_eq!(reply, 0, "never refused");
+    never_refused(raw::inter_cbp(&counts, &mut patterns));
     patterns_of(patterns)
 }
 
@@ -273,39 +258,15 @@ pub fn code_macroblock(
     areas: Areas,
 ) -> Result<Record, Refusal> {
     let Settings { fcode, mode, vectors, quantising } = *settings;
+    let first_method = quantising.first_method.into();
     let mut numbers = Numbers::default();
     done(raw::code_macroblock(
-        fcode,
-        mode.mode,
-        mode.bits_per_pixel,
-        quantising.quantiser,
-        quantising.first_method.into(),
-        vectors,
-        quantising.scan,
-        reference.samples,
-        reference.width,
-        reference.height,
-        reference.stride,
-        source.y,
-        source.cb,
-        source.cr,
-        source.width,
-        source.height,
-        place.column,
-        place.row,
-        quantising.weights,
-        prediction.y,
-        prediction.cb,
-        prediction.cr,
-        areas.lasts,
-        areas.runs,
-        areas.levels,
-        &mut numbers.vector,
-        &mut numbers.sum,
-        &mut numbers.four_vectors,
-        &mut numbers.four_sums,
-        &mut numbers.patterns,
-        &mut numbers.counts,
+        fcode, mode.mode, mode.bits_per_pixel, quantising.quantiser, first_method, vectors,
+        quantising.scan, reference.samples, reference.width, reference.height, reference.stride,
+        source.y, source.cb, source.cr, source.width, source.height, place.column, place.row,
+        quantising.weights, prediction.y, prediction.cb, prediction.cr, areas.lasts, areas.runs,
+        areas.levels, &mut numbers.vector, &mut numbers.sum, &mut numbers.four_vectors,
+        &mut numbers.four_sums, &mut numbers.patterns, &mut numbers.counts,
     ))?;
     Ok(numbers.record())
 }

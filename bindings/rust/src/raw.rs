@@ -6,8 +6,8 @@
 //! an array of the declared length. No two of them overlap where one is written, since they are
 //! borrowed. So every call is sound, and every reply of the entry can be had here.
 //!
-//! Nothing checks these declarations against the library: they, `include/hencouch.h` and the
-//! library's own functions are kept alike by hand, and by the stored calls that the tests replay.
+//! These declarations, `include/hencouch.h` and the library's own functions are kept alike by hand,
+//! and a test holds them to each other.
 //!
 //! ```
 //! let residual = [1; 64];
@@ -80,6 +80,64 @@ interpolate_block_qpel_into = hencouch_interpolate_block_qpel_into {
 });
 
 entry!(
+/// [`crate::interpolate_pixel`]'s entry, which is never refused. Any `half_x` or `half_y` but 0 is a
+/// half.
+interpolate_pixel = hencouch_interpolate_pixel {
+    a: u8, b: u8, c: u8, d: u8, half_x: u8, half_y: u8, rounding: u8, sample: &mut u8
+});
+
+entry!(
+/// [`crate::split_half_pel`]'s entry, which is never refused.
+split_half_pel = hencouch_split_half_pel { mv: i32, whole: &mut i32, half: &mut u8 });
+
+entry!(
+/// [`crate::split_quarter_pel`]'s entry, which is never refused.
+split_quarter_pel = hencouch_split_quarter_pel { mv: i32, whole: &mut i32, fraction: &mut u8 });
+
+entry!(
+/// [`crate::fetch_clamped`]'s entry: 4, 5.
+fetch_clamped = hencouch_fetch_clamped {
+    reads samples: u8, width: usize, height: usize, stride: usize, x: i32, y: i32,
+    sample: &mut u8
+});
+
+entry!(
+/// [`crate::copy_block`]'s entry: 4, 5, 12.
+copy_block = hencouch_copy_block {
+    reads samples: u8, width: usize, height: usize, stride: usize, x: i32, y: i32,
+    block_w: usize, block_h: usize, writes out: u8,
+});
+
+entry!(
+/// [`crate::predict_luma_block`]'s entry: 2, 3, 4, 5, 8, 12, 14.
+predict_luma_block = hencouch_predict_luma_block {
+    reads samples: u8, width: usize, height: usize, stride: usize,
+    mode: u32, bits_per_pixel: u32,
+    mv_x: i32, mv_y: i32, origin_x: i32, origin_y: i32,
+    block_w: usize, block_h: usize, rounding: u8,
+    writes out: u8,
+});
+
+entry!(
+/// [`crate::predict_luma_macroblock`]'s entry: 2, 3, 4, 5, 8, 12.
+predict_luma_macroblock = hencouch_predict_luma_macroblock {
+    reads samples: u8, width: usize, height: usize, stride: usize,
+    mode: u32, bits_per_pixel: u32,
+    mv_x: i32, mv_y: i32, origin_x: i32, origin_y: i32, rounding: u8,
+    writes out: u8,
+});
+
+entry!(
+/// [`crate::predict_luma_macroblock_4mv`]'s entry: 2, 3, 4, 5, 8, 12. Each vector's horizontal, then
+/// vertical.
+predict_luma_macroblock_4mv = hencouch_predict_luma_macroblock_4mv {
+    reads samples: u8, width: usize, height: usize, stride: usize,
+    mode: u32, bits_per_pixel: u32,
+    vectors: &[i32; 8], origin_x: i32, origin_y: i32, rounding: u8,
+    writes out: u8,
+});
+
+entry!(
 /// [`crate::forward_dct_8x8`]'s entry: 12, 13.
 forward_dct_8x8 = hencouch_forward_dct_8x8 { reads residual: i32, writes out: i32, });
 
@@ -107,6 +165,22 @@ entry!(
 levels_to_events = hencouch_levels_to_events {
     reads levels: i32,
     writes lasts: u8, writes runs: u8, writes out_levels: i32, count: &mut u8,
+});
+
+entry!(
+/// [`crate::inter_scan`]'s entry, which is never refused. Any argument but 0 is set.
+inter_scan = hencouch_inter_scan { interlaced: u8, alternate_scan: u8, scan: &mut u32 });
+
+entry!(
+/// [`crate::source_luma_block`]'s entry: 6, 7, 8, 12.
+source_luma_block = hencouch_source_luma_block {
+    reads y: u8, width: usize, height: usize, column: usize, row: usize, writes out: u8,
+});
+
+entry!(
+/// [`crate::source_chroma_block`]'s entry: 6, 7, 8, 12. Width and height are luma's.
+source_chroma_block = hencouch_source_chroma_block {
+    reads chroma: u8, width: usize, height: usize, column: usize, row: usize, writes out: u8,
 });
 
 entry!(
@@ -179,6 +253,10 @@ code_macroblock = hencouch_code_macroblock {
 entry!(
 /// [`crate::Run::open`]'s entry: 6.
 open = hencouch_open { width: usize, height: usize, run: &mut [u64; 5] });
+
+entry!(
+/// [`crate::Run::next_place`]'s entry, which is never refused: column, row.
+next_place = hencouch_next_place { run: &[u64; 5], place: &mut [u64; 2] });
 
 entry!(
 /// [`crate::Run::step`]'s entry: 21, 22, then 1 to 7, 10, 11, 12, 14. Any `first_method` but 0 is

@@ -128,6 +128,12 @@ pub(crate) fn done(reply: u8) -> Result<(), Refusal> {
     }
 }
 
+/// Of the entries that take whatever they are told.
+#[inline]
+pub(crate) fn never_refused(reply: u8) {
+    debug_assert_eq!(reply, 0, "this entry is never refused");
+}
+
 #[cfg(test)]
 mod tests {
     use super::*;

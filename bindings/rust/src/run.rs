@@ -1,8 +1,8 @@
 //! A picture's run: its macroblocks one after the other, row by row, a step for each.
 
 use crate::macroblock::Numbers;
-use crate::refusal::done;
-use crate::{raw, Areas, Prediction, Record, Reference, Refusal, Settings, Source};
+use crate::refusal::{done, never_refused};
+use crate::{raw, Areas, Place, Prediction, Record, Reference, Refusal, Settings, Source};
 
 /// A picture's run. Whatever its numbers are, each call answers as is said of it; one that would
 /// reach 2^64 goes on from 0.
@@ -22,6 +22,7 @@ use crate::{raw, Areas, Prediction, Record, Reference, Refusal, Settings, Source
 /// let mut run = Run::open(20, 16)?;
 /// let mut events = Events::<384>::new();
 /// loop {
+///     // A prediction of the macroblock at `run.next_place()`.
 ///     let prediction = Prediction { y: &[98; 256], cb: &[100; 64], cr: &[100; 64] };
 ///     match run.step(&settings, &reference, &source, &prediction, events.areas()) {
 ///         Ok(record) => assert_eq!(record.counts, [1, 1, 1, 1, 0, 0]),
@@ -78,6 +79,23 @@ impl Run {
         Ok(Run::of(numbers))
     }
 
+    /// The place of the next macroblock that [`Run::step`] codes: below the picture after the last.
+    /// Never refused.
+    ///
+    /// ```
+    /// use hencouch::{Place, Refusal, Run};
+    ///
+    /// let run = Run { macroblocks: 7, ..Run::open(80, 48)? };
+    /// assert_eq!(run.next_place(), Place { column: 2, row: 1 });
+    /// # Ok::<(), Refusal>(())
+    /// ```
+    pub fn next_place(&self) -> Place {
+        let mut place = [0; 2];
+        never_refused(raw::next_place(&self.numbers(), &mut place));
+        let [column, row] = place.map(|number| number as usize);
+        Place { column, row }
+    }
+
     /// Searches for the run's next macroblock and codes it, as [`crate::code_macroblock`] does
     /// there; the run is then one macroblock further. A refused step leaves it as it was.
     ///
@@ -112,38 +130,16 @@ impl Run {
         areas: Areas,
     ) -> Result<Record, Refusal> {
         let Settings { fcode, mode, vectors, quantising } = *settings;
+        let first_method = quantising.first_method.into();
         let mut run = self.numbers();
         let mut numbers = Numbers::default();
         done(raw::step(
-            &mut run,
-            fcode,
-            mode.mode,
-            mode.bits_per_pixel,
-            quantising.quantiser,
-            quantising.first_method.into(),
-            vectors,
-            quantising.scan,
-            reference.samples,
-            reference.width,
-            reference.height,
-            reference.stride,
-            source.y,
-            source.cb,
-            source.cr,
-            source.width,
-            source.height,
-            quantising.weights,
-            prediction.y,
-            prediction.cb,
-            prediction.cr,
-            areas.lasts,
-            areas.runs,
-            areas.levels,
-            &mut numbers.vector,
-            &mut numbers.sum,
-            &mut numbers.four_vectors,
-            &mut numbers.four_sums,
-            &mut numbers.patterns,
+            &mut run, fcode, mode.mode, mode.bits_per_pixel, quantising.quantiser, first_method,
+            vectors, quantising.scan, reference.samples, reference.width, reference.height,
+            reference.stride, source.y, source.cb, source.cr, source.width, source.height,
+            quantising.weights, prediction.y, prediction.cb, prediction.cr, areas.lasts,
+            areas.runs, areas.levels, &mut numbers.vector, &mut numbers.sum,
+            &mut numbers.four_vectors, &mut numbers.four_sums, &mut numbers.patterns,
             &mut numbers.counts,
         ))?;
         *self = Run::of(run);

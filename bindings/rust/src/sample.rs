@@ -1,7 +1,25 @@
-//! Samples between samples: 7.6.2.1 and 7.6.2.2.
+//! Samples of a reference, and between them: 7.6.2.1 and 7.6.2.2.
 
-use crate::refusal::done;
+use crate::refusal::{done, never_refused};
 use crate::{raw, MotionVector, Point, Reference, Refusal};
+
+/// A vector's component in half samples.
+#[derive(Clone, Copy, Debug, PartialEq, Eq)]
+pub struct HalfPel {
+    /// Whole samples, rounded down.
+    pub whole: i32,
+    /// Whether half a sample is left.
+    pub half: bool,
+}
+
+/// A vector's component in quarter samples.
+#[derive(Clone, Copy, Debug, PartialEq, Eq)]
+pub struct QuarterPel {
+    /// Whole samples, rounded down.
+    pub whole: i32,
+    /// The quarters left, 0 to 3.
+    pub fraction: u8,
+}
 
 /// A block to predict.
 ///
@@ -89,18 +107,101 @@ pub fn interpolate_block_qpel_into(
     let Reference { samples, width, height, stride } = *reference;
     let Block { vector, origin, block_w, block_h, rounding } = *block;
     done(raw::interpolate_block_qpel_into(
-        samples,
-        width,
-        height,
-        stride,
-        vector.x,
-        vector.y,
-        origin.x,
-        origin.y,
-        block_w,
-        block_h,
-        rounding,
-        bits_per_pixel,
-        out,
+        samples, width, height, stride, vector.x, vector.y, origin.x, origin.y, block_w, block_h,
+        rounding, bits_per_pixel, out,
     ))
+}
+
+/// The sample between four: `a` and `b` above `c` and `d`, half a sample to the right, down, both or
+/// neither (7.6.2.1). Only the low bit of the rounding type counts. Never refused.
+///
+/// ```
+/// use hencouch::interpolate_pixel;
+///
+/// assert_eq!(interpolate_pixel([1, 2, 0, 0], true, false, 0), 2);
+/// assert_eq!(interpolate_pixel([1, 2, 0, 0], true, false, 1), 1);
+/// assert_eq!(interpolate_pixel([0, 0, 1, 1], true, true, 0), 1);
+/// ```
+pub fn interpolate_pixel(around: [u8; 4], half_x: bool, half_y: bool, rounding: u8) -> u8 {
+    let [a, b, c, d] = around;
+    let mut sample = 0;
+    let (half_x, half_y) = (half_x.into(), half_y.into());
+    never_refused(raw::interpolate_pixel(a, b, c, d, half_x, half_y, rounding, &mut sample));
+    sample
+}
+
+/// A component in half samples, split by an arithmetic shift. Never refused.
+///
+/// ```
+/// use hencouch::{split_half_pel, HalfPel};
+///
+/// assert_eq!(split_half_pel(-1), HalfPel { whole: -1, half: true });
+/// assert_eq!(split_half_pel(-2), HalfPel { whole: -1, half: false });
+/// ```
+pub fn split_half_pel(mv: i32) -> HalfPel {
+    let (mut whole, mut half) = (0, 0);
+    never_refused(raw::split_half_pel(mv, &mut whole, &mut half));
+    HalfPel { whole, half: half != 0 }
+}
+
+/// A component in quarter samples, split by an arithmetic shift. Never refused.
+///
+/// ```
+/// use hencouch::{split_quarter_pel, QuarterPel};
+///
+/// assert_eq!(split_quarter_pel(-5), QuarterPel { whole: -2, fraction: 3 });
+/// ```
+pub fn split_quarter_pel(mv: i32) -> QuarterPel {
+    let (mut whole, mut fraction) = (0, 0);
+    never_refused(raw::split_quarter_pel(mv, &mut whole, &mut fraction));
+    QuarterPel { whole, fraction }
+}
+
+/// A sample of the reference; a point outside it is clamped into it.
+///
+/// Refused: 4 and 5 as [`Reference`] says.
+///
+/// ```
+/// use hencouch::{fetch_clamped, Point, Reference, Refusal};
+///
+/// let reference = Reference { samples: &[1, 2, 0, 3, 4], width: 2, height: 2, stride: 3 };
+/// assert_eq!(fetch_clamped(&reference, Point { x: 1, y: 1 })?, 4);
+/// assert_eq!(fetch_clamped(&reference, Point { x: 9, y: -9 })?, 2);
+///
+/// let narrow = Reference { stride: 1, ..reference };
+/// assert_eq!(fetch_clamped(&narrow, Point { x: 0, y: 0 }), Err(Refusal::ReferenceSize));
+/// # Ok::<(), Refusal>(())
+/// ```
+pub fn fetch_clamped(reference: &Reference, at: Point) -> Result<u8, Refusal> {
+    let Reference { samples, width, height, stride } = *reference;
+    let mut sample = 0;
+    done(raw::fetch_clamped(samples, width, height, stride, at.x, at.y, &mut sample))?;
+    Ok(sample)
+}
+
+/// Copies the block at a point, row by row; what lies outside the reference is clamped into it.
+///
+/// Refused: 4 and 5 as [`Reference`] says, 12 where `out` is not `block_w * block_h` long.
+///
+/// ```
+/// use hencouch::{copy_block, Point, Reference, Refusal};
+///
+/// let reference = Reference { samples: &[1, 2, 3, 4], width: 2, height: 2, stride: 2 };
+/// let mut out = [0; 6];
+/// copy_block(&reference, Point { x: 0, y: 1 }, 3, 2, &mut out)?;
+/// assert_eq!(out, [3, 4, 4, 3, 4, 4]);
+///
+/// let refused = copy_block(&reference, Point { x: 0, y: 1 }, 3, 3, &mut out);
+/// assert_eq!(refused, Err(Refusal::Length));
+/// # Ok::<(), Refusal>(())
+/// ```
+pub fn copy_block(
+    reference: &Reference,
+    at: Point,
+    block_w: usize,
+    block_h: usize,
+    out: &mut [u8],
+) -> Result<(), Refusal> {
+    let Reference { samples, width, height, stride } = *reference;
+    done(raw::copy_block(samples, width, height, stride, at.x, at.y, block_w, block_h, out))
 }

@@ -68,20 +68,9 @@ pub fn estimate_motion(search: &Search) -> Result<Estimated, Refusal> {
     let Search { source, place, reference, mode, fcode } = *search;
     let (mut vector, mut sum) = ([0; 2], [0; 1]);
     done(raw::estimate_motion(
-        source.y,
-        source.width,
-        source.height,
-        place.column,
-        place.row,
-        reference.samples,
-        reference.width,
-        reference.height,
-        reference.stride,
-        mode.mode,
-        mode.bits_per_pixel,
-        fcode,
-        &mut vector,
-        &mut sum,
+        source.y, source.width, source.height, place.column, place.row, reference.samples,
+        reference.width, reference.height, reference.stride, mode.mode, mode.bits_per_pixel, fcode,
+        &mut vector, &mut sum,
     ))?;
     Ok(Estimated { vector: vector_of(vector), sum: sum[0] })
 }
@@ -113,22 +102,9 @@ pub fn estimate_motion_4mv(search: &Search, seed: MotionVector) -> Result<Estima
     let Search { source, place, reference, mode, fcode } = *search;
     let (mut vectors, mut sums) = ([0; 8], [0; 4]);
     done(raw::estimate_motion_4mv(
-        source.y,
-        source.width,
-        source.height,
-        place.column,
-        place.row,
-        reference.samples,
-        reference.width,
-        reference.height,
-        reference.stride,
-        mode.mode,
-        mode.bits_per_pixel,
-        fcode,
-        seed.x,
-        seed.y,
-        &mut vectors,
-        &mut sums,
+        source.y, source.width, source.height, place.column, place.row, reference.samples,
+        reference.width, reference.height, reference.stride, mode.mode, mode.bits_per_pixel, fcode,
+        seed.x, seed.y, &mut vectors, &mut sums,
     ))?;
     Ok(EstimatedFour { vectors: vectors_of(vectors), sums })
 }
