@@ -6,7 +6,7 @@ use Rattle.refusal.specs.Reply.{done}
 use Rattle.record.specs.Zero.{noRecord}
 use Rattle.macroblock.specs.Request.{Request, replyOf}
 use Rattle.macroblock.specs.Answer.{Answer, answerOf, recordOf}
-use Rattle.hencouch.specs.Whole.{RecordAreas, recordAreasOf}
+use Rattle.areas.specs.Whole.{RecordAreas, recordAreasOf}
 use Rattle.refusal.proofs.Replies.{done-again}
 
 -- a is the entry's answer, r its reply's number, and new what its record leaves of the areas that held old

@@ -7,8 +7,8 @@ use Rattle.refusal.specs.Number.{codeOf}
 use Rattle.refusal.specs.Reply.{done}
 use Rattle.picture.specs.declared.Run.{Run}
 use Rattle.picture.specs.Run.{StepAnswer}
-use Rattle.hencouch.specs.Run.{runNumbers}
-use Rattle.hencouch.specs.Whole.{RecordAreas, recordAreasOf}
+use Rattle.areas.specs.Run.{runNumbers}
+use Rattle.areas.specs.Whole.{RecordAreas, recordAreasOf}
 
 -- a is the answer b, r its reply's number, and new what its numbers leave of the area that held old
 pub numbered : {A : Type 0} (reply : A → Reply) (numbers : A → List ℕ) (a b : A) (r : ℕ) (new old : List ℕ)

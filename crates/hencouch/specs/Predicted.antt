@@ -9,7 +9,7 @@ use Rattle.plane.specs.declared.Site.{Site}
 use Rattle.prediction.specs.declared.PvopMbMotion.{PvopMbMotion}
 use Rattle.prediction.specs.Luma.{modeOf, predictReply}
 use Rattle.prediction.specs.Macroblock.{macroblockReply}
-use Rattle.hencouch.specs.Numbers.{modeNumberReply}
+use Rattle.areas.specs.Numbers.{modeNumberReply}
 
 -- 2, 3, 4, 5, 8, 12, 14
 abbrev pub lumaBlockReply : ℕ → ℕ → Geometry → ℕ → MotionVector → Site → ℕ → Reply

@@ -6,7 +6,7 @@ ghost use Rattle.refusal.specs.Reply.{done};
 ghost use Rattle.plane.specs.Plane.{planeOf, sampleAt, copiedBlock};
 ghost use Rattle.plane.specs.Reference.{referenceReply, copyReply};
 ghost use Rattle.plane.specs.Source.{sourceLumaBlockReply, sourceLuma, sourceChromaBlockReply, sourceChroma};
-ghost use Rattle.hencouch.specs.Numbers.{geometryOf, pointOf, sizeOf, macroblockAt};
+ghost use Rattle.areas.specs.Numbers.{geometryOf, pointOf, sizeOf, macroblockAt};
 ghost use Rattle.hencouch.specs.ToldFetched.{fetchedCode, fetchedIn};
 use plane::Fetched;
 use plane::Geometry;
@@ -79,7 +79,7 @@ pub extern "C" fn hencouch_copy_block(
         height,
         stride,
     };
-    let at = crate::numbers::point_of(x, y);
+    let at = areas::numbers::point_of(x, y);
     let reply = plane::copy_block(samples, geometry, at, block_w, block_h, out);
     refusal::code(reply)
 }

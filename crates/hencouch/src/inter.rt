@@ -8,44 +8,10 @@ ghost use Rattle.coding.specs.Residual.{samples, sourceOf, residualOf};
 ghost use Rattle.coding.specs.Coding.{quantisingOf, countOf, countsOf, blockAreas, areasOf, lumaPattern, chromaPattern};
 ghost use Rattle.coding.specs.Reply.{residualReply, codingReply};
 ghost use Rattle.macroblock.specs.Activities.{intraActivity};
-ghost use Rattle.hencouch.specs.Numbers.{sizeOf, macroblockAt, isSet};
-ghost use Rattle.hencouch.specs.Whole.{patternsArea};
-use coding::Counted;
-use macroblock::Activity;
+ghost use Rattle.areas.specs.Numbers.{sizeOf, macroblockAt, isSet};
+ghost use Rattle.areas.specs.Whole.{patternsArea};
 use plane::MacroblockPlace;
 use plane::SourceSize;
-use refusal::Reply;
-
-// The sum, where there is one, and the reply's number.
-fn write_activity(told: Activity, activity: &mut u32) -> u8
-    ensures { λ r. ⌜ r ≡ codeOf (told .reply) ⌝ }
-    ensures { λ _. ⌜ now (activity .exit) ≡ done (told .reply) (told .sum) (now (activity .entry)) ⌝ }
-{
-    let reply = told.reply;
-    match reply {
-        Reply::Refused(why) => refusal::number(why),
-        Reply::Done => {
-            *activity = told.sum;
-            0
-        }
-    }
-}
-
-// The six counts, where there are any, and the reply's number.
-fn write_counts(told: Counted, counts: &mut [u8; 6]) -> u8
-    ensures { λ r. ⌜ r ≡ codeOf (told .reply) ⌝ }
-    ensures { λ _. ⌜ now (counts .exit) ≡ done (told .reply) (told .counts) (now (counts .entry)) ⌝ }
-{
-    let reply = told.reply;
-    match reply {
-        Reply::Refused(why) => refusal::number(why),
-        Reply::Done => {
-            let six = told.counts;
-            *counts = six;
-            0
-        }
-    }
-}
 
 // How far a macroblock's luma lies from its mean: 6, 7, 8.
 #[no_mangle]
@@ -65,7 +31,7 @@ pub extern "C" fn hencouch_intra_activity(
     let size = SourceSize { width, height };
     let place = MacroblockPlace { column, row };
     let told = macroblock::intra_activity(source, size, place);
-    write_activity(told, activity)
+    areas::records::write_activity(told, activity)
 }
 
 // Source less prediction, in six blocks of 64: 6, 7, 8, 12.
@@ -123,7 +89,7 @@ pub extern "C" fn hencouch_quantise_inter_block(
         × (now (count .exit) ≡ done reply (countOf by block) (now (count .entry)))
         ) ⌝ }
 {
-    let first = crate::numbers::is_set(first_method);
+    let first = areas::numbers::is_set(first_method);
     let told = coding::quantise_inter_block(
         residual,
         quantiser,
@@ -134,7 +100,7 @@ pub extern "C" fn hencouch_quantise_inter_block(
         runs,
         levels,
     );
-    crate::areas::write_count(told, count)
+    areas::records::write_count(told, count)
 }
 
 // The events of all six blocks, each in its own area: 10, 11, 12, 13, 14.
@@ -161,7 +127,7 @@ pub extern "C" fn hencouch_quantise_inter_residual(
         × (now (counts .exit) ≡ done reply (countsOf by all) (now (counts .entry)))
         ) ⌝ }
 {
-    let first = crate::numbers::is_set(first_method);
+    let first = areas::numbers::is_set(first_method);
     let told = coding::quantise_inter_residual(
         residual,
         quantiser,
@@ -172,7 +138,7 @@ pub extern "C" fn hencouch_quantise_inter_residual(
         runs,
         levels,
     );
-    write_counts(told, counts)
+    areas::records::write_counts(told, counts)
 }
 
 // Which of six blocks have an event: the luma pattern, then the chroma pattern. Never refused.
@@ -182,6 +148,6 @@ pub extern "C" fn hencouch_inter_cbp(counts: &[u8; 6], patterns: &mut [u8; 2]) -
     ensures { λ _. ⌜ now (patterns .exit) ≡ patternsArea (lumaPattern (now (counts .entry))) (chromaPattern (now (counts .entry))) ⌝ }
 {
     let told = coding::inter_cbp(*counts);
-    *patterns = crate::areas::patterns_area(told.luma, told.chroma);
+    *patterns = areas::records::patterns_area(told.luma, told.chroma);
     0
 }

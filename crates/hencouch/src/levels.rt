@@ -7,7 +7,7 @@ ghost use Rattle.quantise.specs.Block.{blockLevels, secondInverse, blockInverse
 ghost use Rattle.scan.specs.Event.{eventsOf, lastsArea, runsArea, levelsArea};
 ghost use Rattle.scan.specs.Grid.{gridOf, interScan, scanned, unscanned};
 ghost use Rattle.scan.specs.Reply.{scanReply, eventsReply};
-ghost use Rattle.hencouch.specs.Numbers.{isSet};
+ghost use Rattle.areas.specs.Numbers.{isSet};
 
 // 10, 11, 12, 13. Any first_method but 0 is the first method.
 #[no_mangle]
@@ -25,7 +25,7 @@ pub extern "C" fn hencouch_quantise_block(
         (r ≡ codeOf reply) × (now (out .exit) ≡ done reply block (now (out .entry)))
         ) ⌝ }
 {
-    let first = crate::numbers::is_set(first_method);
+    let first = areas::numbers::is_set(first_method);
     let reply = quantise::quantise_block(coefficients, quantiser, first, weights, out);
     refusal::code(reply)
 }
@@ -87,7 +87,7 @@ pub extern "C" fn hencouch_levels_to_events(
         ) ⌝ }
 {
     let told = scan::levels_to_events(levels, lasts, runs, out_levels);
-    crate::areas::write_count(told, count)
+    areas::records::write_count(told, count)
 }
 
 // The scan number of an inter block's scan: any number but 0 is yes. Never refused.
@@ -96,8 +96,8 @@ pub extern "C" fn hencouch_inter_scan(interlaced: u8, alternate_scan: u8, scan: 
     ensures { λ r. ⌜ r ≡ 0 ⌝ }
     ensures { λ _. ⌜ now (scan .exit) ≡ interScan (isSet interlaced) (isSet «alternate_scan») ⌝ }
 {
-    let fields = crate::numbers::is_set(interlaced);
-    let alternate = crate::numbers::is_set(alternate_scan);
+    let fields = areas::numbers::is_set(interlaced);
+    let alternate = areas::numbers::is_set(alternate_scan);
     *scan = scan::inter_scan(fields, alternate);
     0
 }

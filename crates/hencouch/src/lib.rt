@@ -1,10 +1,8 @@
 // The entries for C and Rust: numbers and slices only, a slice as a pointer and a length. Each answers 0, or the refusal's number.
-mod areas;
 pub mod copied;
 pub mod inter;
 pub mod levels;
 pub mod motion;
-mod numbers;
 pub mod predicted;
 pub mod run;
 pub mod sample;

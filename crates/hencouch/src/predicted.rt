@@ -7,7 +7,7 @@ ghost use Rattle.plane.specs.Plane.{planeOf};
 ghost use Rattle.prediction.specs.Luma.{modeOf, predictedBlock};
 ghost use Rattle.prediction.specs.Macroblock.{macroblockLuma};
 ghost use Rattle.prediction.specs.declared.PvopMbMotion.the-variants.{OneMv};
-ghost use Rattle.hencouch.specs.Numbers.{geometryOf, vectorOf, pointOf, siteOf, fourMotion};
+ghost use Rattle.areas.specs.Numbers.{geometryOf, vectorOf, pointOf, siteOf, fourMotion};
 ghost use Rattle.hencouch.specs.Predicted.{lumaBlockReply, lumaMacroblockReply};
 use plane::Geometry;
 use plane::Point;
@@ -30,7 +30,7 @@ fn predict_block(
     ensures { λ r. ⌜ r ≡ lumaBlockReply mode bpp geometry (length (now (samples .entry))) vector site (length (now (out .entry))) ⌝ }
     ensures { λ r. ⌜ now (out .exit) ≡ done r (predictedBlock (modeOf mode bpp) (planeOf (now (samples .entry)) geometry) site rounding vector) (now (out .entry)) ⌝ }
 {
-    let known = crate::numbers::mode_number_reply(mode);
+    let known = areas::numbers::mode_number_reply(mode);
     let units = prediction::mode_of(mode, bpp);
     match known {
         Reply::Refused(why) => Reply::Refused(why),
@@ -54,7 +54,7 @@ fn predict_macroblock(
     ensures { λ r. ⌜ r ≡ lumaMacroblockReply mode bpp geometry (length (now (samples .entry))) motion corner (length (now (out .entry))) ⌝ }
     ensures { λ r. ⌜ now (out .exit) ≡ done r (macroblockLuma (modeOf mode bpp) (planeOf (now (samples .entry)) geometry) motion corner rounding) (now (out .entry)) ⌝ }
 {
-    let known = crate::numbers::mode_number_reply(mode);
+    let known = areas::numbers::mode_number_reply(mode);
     let units = prediction::mode_of(mode, bpp);
     match known {
         Reply::Refused(why) => Reply::Refused(why),
@@ -102,8 +102,8 @@ pub extern "C" fn hencouch_predict_luma_block(
         height,
         stride,
     };
-    let vector = crate::numbers::vector_of(mv_x, mv_y);
-    let site = crate::numbers::site_of(origin_x, origin_y, block_w, block_h);
+    let vector = areas::numbers::vector_of(mv_x, mv_y);
+    let site = areas::numbers::site_of(origin_x, origin_y, block_w, block_h);
     let reply = predict_block(
         samples,
         geometry,
@@ -147,8 +147,8 @@ pub extern "C" fn hencouch_predict_luma_macroblock(
         height,
         stride,
     };
-    let vector = crate::numbers::vector_of(mv_x, mv_y);
-    let corner = crate::numbers::point_of(origin_x, origin_y);
+    let vector = areas::numbers::vector_of(mv_x, mv_y);
+    let corner = areas::numbers::point_of(origin_x, origin_y);
     let reply = predict_macroblock(
         samples,
         geometry,
@@ -191,8 +191,8 @@ pub extern "C" fn hencouch_predict_luma_macroblock_4mv(
         height,
         stride,
     };
-    let motion = crate::numbers::four_motion(*vectors);
-    let corner = crate::numbers::point_of(origin_x, origin_y);
+    let motion = areas::numbers::four_motion(*vectors);
+    let corner = areas::numbers::point_of(origin_x, origin_y);
     let reply = predict_macroblock(
         samples,
         geometry,

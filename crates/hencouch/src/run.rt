@@ -6,82 +6,11 @@ ghost use Rattle.refusal.specs.Reply.{done};
 ghost use Rattle.reader.specs.Handed.{areas};
 ghost use Rattle.macroblock.specs.Request.{request};
 ghost use Rattle.picture.specs.Run.{openOf, nextPlace, stepOf, closeOf};
-ghost use Rattle.hencouch.specs.Numbers.{geometryOf, sizeOf, macroblockSettings};
-ghost use Rattle.hencouch.specs.Run.{runOf, runNumbers, placeNumbers, totalsNumbers};
-ghost use Rattle.hencouch.specs.Whole.{recordAreas, recordAreasOf};
-use picture::Closed;
-use picture::Run;
+ghost use Rattle.areas.specs.Numbers.{geometryOf, sizeOf, macroblockSettings};
+ghost use Rattle.areas.specs.Run.{runOf, runNumbers, placeNumbers, totalsNumbers};
+ghost use Rattle.areas.specs.Whole.{recordAreas, recordAreasOf};
 use plane::Geometry;
-use plane::MacroblockPlace;
 use plane::SourceSize;
-use refusal::Reply;
-
-fn wide(n: usize) -> u64
-    ensures { λ r. ⌜ r ≡ n ⌝ }
-{
-    n as u64
-}
-
-fn side(n: u64) -> usize
-    ensures { λ r. ⌜ r ≡ n ⌝ }
-{
-    n as usize
-}
-
-fn run_of(numbers: [u64; 5]) -> Run
-    ensures { λ r. ⌜ r ≡ runOf numbers ⌝ }
-{
-    Run {
-        size: SourceSize {
-            width: side(numbers[0]),
-            height: side(numbers[1]),
-        },
-        macroblocks: numbers[2],
-        events: numbers[3],
-        sums: numbers[4],
-    }
-}
-
-// A run into its numbers, where there is a new one.
-fn write_run(reply: Reply, given: Run, run: &mut [u64; 5])
-    ensures { λ _. ⌜ now (run .exit) ≡ done reply (runNumbers given) (now (run .entry)) ⌝ }
-{
-    match reply {
-        Reply::Refused(_) => {}
-        Reply::Done => {
-            let size = given.size;
-            *run = [
-                wide(size.width),
-                wide(size.height),
-                given.macroblocks,
-                given.events,
-                given.sums,
-            ];
-        }
-    }
-}
-
-// The totals, where there are any, and the reply's number.
-fn write_totals(told: Closed, totals: &mut [u64; 3]) -> u8
-    ensures { λ r. ⌜ r ≡ codeOf (told .reply) ⌝ }
-    ensures { λ _. ⌜ now (totals .exit) ≡ done (told .reply) (totalsNumbers (told .totals)) (now (totals .entry)) ⌝ }
-{
-    let reply = told.reply;
-    match reply {
-        Reply::Refused(why) => refusal::number(why),
-        Reply::Done => {
-            let given = told.totals;
-            *totals = [given.macroblocks, given.events, given.sums];
-            0
-        }
-    }
-}
-
-fn place_numbers(at: MacroblockPlace) -> [u64; 2]
-    ensures { λ r. ⌜ r ≡ placeNumbers at ⌝ }
-{
-    [wide(at.column), wide(at.row)]
-}
 
 // A run of which nothing is coded yet: 6.
 #[no_mangle]
@@ -96,7 +25,7 @@ pub extern "C" fn hencouch_open(width: usize, height: usize, run: &mut [u64; 5])
     let opened = picture::open(size);
     let reply = opened.reply;
     let given = opened.run;
-    write_run(reply, given, run);
+    areas::runs::write_run(reply, given, run);
     refusal::code(reply)
 }
 
@@ -106,9 +35,9 @@ pub extern "C" fn hencouch_next_place(run: &[u64; 5], place: &mut [u64; 2]) -> u
     ensures { λ r. ⌜ r ≡ 0 ⌝ }
     ensures { λ _. ⌜ now (place .exit) ≡ placeNumbers (nextPlace (runOf (now (run .entry)))) ⌝ }
 {
-    let before = run_of(*run);
+    let before = areas::runs::run_of(*run);
     let next = picture::next_place(before);
-    *place = place_numbers(next);
+    *place = areas::runs::place_numbers(next);
     0
 }
 
@@ -167,7 +96,7 @@ pub extern "C" fn hencouch_step(
         × (new ≡ done (coded .reply) (recordAreasOf (coded .«record»)) old)
         ) ⌝ }
 {
-    let settings = crate::numbers::settings_of(
+    let settings = areas::numbers::settings_of(
         fcode,
         mode,
         bpp,
@@ -182,7 +111,7 @@ pub extern "C" fn hencouch_step(
         stride,
     };
     let size = SourceSize { width, height };
-    let before = run_of(*run);
+    let before = areas::runs::run_of(*run);
     let told = picture::step(
         before,
         settings,
@@ -203,8 +132,8 @@ pub extern "C" fn hencouch_step(
     let reply = told.reply;
     let next = told.run;
     let given = told.record;
-    write_run(reply, next, run);
-    crate::areas::write_record(
+    areas::runs::write_run(reply, next, run);
+    areas::records::write_record(
         reply,
         given,
         vector,
@@ -226,7 +155,7 @@ pub extern "C" fn hencouch_close(run: &[u64; 5], totals: &mut [u64; 3]) -> u8
         × (now (totals .exit) ≡ done (closed .reply) (totalsNumbers (closed .totals)) (now (totals .entry)))
         ) ⌝ }
 {
-    let before = run_of(*run);
+    let before = areas::runs::run_of(*run);
     let closed = picture::close(before);
-    write_totals(closed, totals)
+    areas::runs::write_totals(closed, totals)
 }

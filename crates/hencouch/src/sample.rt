@@ -11,7 +11,7 @@ ghost use Rattle.half_sample.specs.Split.{splitHalf};
 ghost use Rattle.half_sample.specs.Block.{halfBlock};
 ghost use Rattle.quarter_sample.specs.Block.{quarterBlock, quarterReply};
 ghost use Rattle.quarter_sample.specs.Split.{splitQuarter};
-ghost use Rattle.hencouch.specs.Numbers.{geometryOf, vectorOf, siteOf, isSet, flagOf};
+ghost use Rattle.areas.specs.Numbers.{geometryOf, vectorOf, siteOf, isSet, flagOf};
 use plane::Geometry;
 
 // Half samples: 4, 5, 8, 12, 14.
@@ -44,8 +44,8 @@ pub extern "C" fn hencouch_interpolate_block_into(
         height,
         stride,
     };
-    let vector = crate::numbers::vector_of(mv_x, mv_y);
-    let site = crate::numbers::site_of(origin_x, origin_y, block_w, block_h);
+    let vector = areas::numbers::vector_of(mv_x, mv_y);
+    let site = areas::numbers::site_of(origin_x, origin_y, block_w, block_h);
     let reply = half_sample::interpolate_block_into(samples, geometry, site, vector, rounding, out);
     refusal::code(reply)
 }
@@ -81,8 +81,8 @@ pub extern "C" fn hencouch_interpolate_block_qpel_into(
         height,
         stride,
     };
-    let vector = crate::numbers::vector_of(mv_x, mv_y);
-    let site = crate::numbers::site_of(origin_x, origin_y, block_w, block_h);
+    let vector = areas::numbers::vector_of(mv_x, mv_y);
+    let site = areas::numbers::site_of(origin_x, origin_y, block_w, block_h);
     let reply = quarter_sample::interpolate_block_qpel_into(
         samples,
         geometry,
@@ -110,8 +110,8 @@ pub extern "C" fn hencouch_interpolate_pixel(
     ensures { λ r. ⌜ r ≡ 0 ⌝ }
     ensures { λ _. ⌜ now (sample .exit) ≡ pixelOf a b c d (isSet «half_x») (isSet «half_y») (rounding % 2) ⌝ }
 {
-    let across = crate::numbers::is_set(half_x);
-    let down = crate::numbers::is_set(half_y);
+    let across = areas::numbers::is_set(half_x);
+    let down = areas::numbers::is_set(half_y);
     *sample = half_sample::interpolate_pixel(a, b, c, d, across, down, rounding);
     0
 }
@@ -126,7 +126,7 @@ pub extern "C" fn hencouch_split_half_pel(mv: i32, whole: &mut i32, half: &mut u
     let split = half_sample::split_half_pel(mv);
     let down = split.whole;
     *whole = down;
-    *half = crate::numbers::flag_of(split.half);
+    *half = areas::numbers::flag_of(split.half);
     0
 }
 

@@ -5,8 +5,8 @@ ghost use Rattle.refusal.specs.Reply.{done};
 ghost use Rattle.reader.specs.Handed.{areas};
 ghost use Rattle.macroblock.specs.Request.{request, replyOf};
 ghost use Rattle.macroblock.specs.Answer.{answerOf, recordOf};
-ghost use Rattle.hencouch.specs.Numbers.{geometryOf, sizeOf, macroblockAt, macroblockSettings};
-ghost use Rattle.hencouch.specs.Whole.{recordAreas, recordAreasOf};
+ghost use Rattle.areas.specs.Numbers.{geometryOf, sizeOf, macroblockAt, macroblockSettings};
+ghost use Rattle.areas.specs.Whole.{recordAreas, recordAreasOf};
 use plane::Geometry;
 use plane::MacroblockPlace;
 use plane::SourceSize;
@@ -63,7 +63,7 @@ pub extern "C" fn hencouch_code_macroblock(
         × (new ≡ done (replyOf q) (recordAreasOf (recordOf q)) old)
         ) ⌝ }
 {
-    let settings = crate::numbers::settings_of(
+    let settings = areas::numbers::settings_of(
         fcode,
         mode,
         bpp,
@@ -98,7 +98,7 @@ pub extern "C" fn hencouch_code_macroblock(
     );
     let reply = coded.reply;
     let given = coded.record;
-    crate::areas::write_record(
+    areas::records::write_record(
         reply,
         given,
         vector,

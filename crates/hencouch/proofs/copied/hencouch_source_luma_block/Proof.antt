@@ -4,7 +4,7 @@ use Rattle.refusal.specs.declared.Reply.{Reply}
 use Rattle.refusal.specs.Number.{codeOf}
 use Rattle.refusal.specs.Reply.{done}
 use Rattle.plane.specs.Source.{sourceLuma}
-use Rattle.hencouch.specs.Numbers.{sizeOf, macroblockAt}
+use Rattle.areas.specs.Numbers.{sizeOf, macroblockAt}
 use borrow.Author.Needs.{needs}
 use Rattle.hencouch.proofs.copied.hencouch_source_luma_block.Statement.{statement}
 use Rattle.hencouch.proofs.copied.hencouch_source_luma_block.Tie as tie

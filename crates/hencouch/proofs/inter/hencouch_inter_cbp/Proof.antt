@@ -1,7 +1,7 @@
 -- `hencouch::inter::hencouch_inter_cbp` meets its contract. Assumes nothing.
 use mathlib.Core.Path.{refl, ap, _∙_}
 use Rattle.coding.specs.declared.Patterns.{Patterns}
-use Rattle.hencouch.specs.Whole.{patternsArea}
+use Rattle.areas.specs.Whole.{patternsArea}
 use borrow.Author.Needs.{needs}
 use Rattle.hencouch.proofs.inter.hencouch_inter_cbp.Statement.{statement}
 use Rattle.hencouch.proofs.inter.hencouch_inter_cbp.Tie as tie

@@ -6,7 +6,7 @@ use Rattle.refusal.specs.declared.Reply.{Reply}
 use Rattle.refusal.specs.Number.{codeOf}
 use Rattle.refusal.specs.Reply.{done}
 use Rattle.coding.specs.Residual.{samples, sourceOf, residualOf}
-use Rattle.hencouch.specs.Numbers.{sizeOf, macroblockAt}
+use Rattle.areas.specs.Numbers.{sizeOf, macroblockAt}
 use borrow.Author.Needs.{needs}
 use Rattle.hencouch.proofs.inter.hencouch_macroblock_residual.Statement.{statement}
 use Rattle.hencouch.proofs.inter.hencouch_macroblock_residual.Tie as tie

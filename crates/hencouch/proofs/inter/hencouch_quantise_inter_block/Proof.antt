@@ -12,7 +12,7 @@ use Rattle.coding.specs.Coding.{Quantising, quantisingOf, blockAreas, countOf}
 use Rattle.coding.specs.Reply.{codingReply, blockEvents}
 use Rattle.refusal.proofs.Replies.{done-again}
 use borrow.Author.Needs.{needs}
-use Rattle.hencouch.specs.Numbers.{isSet}
+use Rattle.areas.specs.Numbers.{isSet}
 use Rattle.hencouch.proofs.inter.hencouch_quantise_inter_block.Statement.{statement}
 use Rattle.hencouch.proofs.inter.hencouch_quantise_inter_block.Tie as tie
 

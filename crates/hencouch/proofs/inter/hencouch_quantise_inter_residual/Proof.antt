@@ -13,7 +13,7 @@ use Rattle.coding.specs.Coding.{Quantising, quantisingOf, areasOf, countsOf}
 use Rattle.coding.specs.Reply.{codingReply, residualEvents}
 use Rattle.refusal.proofs.Replies.{done-again}
 use borrow.Author.Needs.{needs}
-use Rattle.hencouch.specs.Numbers.{isSet}
+use Rattle.areas.specs.Numbers.{isSet}
 use Rattle.hencouch.proofs.inter.hencouch_quantise_inter_residual.Statement.{statement}
 use Rattle.hencouch.proofs.inter.hencouch_quantise_inter_residual.Tie as tie
 

@@ -8,7 +8,7 @@ use Rattle.refusal.specs.declared.Reply.{Reply}
 use Rattle.refusal.specs.Number.{codeOf}
 use Rattle.refusal.specs.Reply.{done}
 use Rattle.search.specs.declared.Estimated.{Estimated}
-use Rattle.hencouch.specs.Search.{oneAreasReply, vectorArea}
+use Rattle.areas.specs.Search.{oneAreasReply, vectorArea}
 use borrow.Author.Needs.{needs}
 use Rattle.hencouch.proofs.motion.hencouch_estimate_motion.Statement.{statement}
 use Rattle.hencouch.proofs.motion.hencouch_estimate_motion.Tie as tie

@@ -12,7 +12,7 @@ use Rattle.record.specs.declared.MotionVector.{MotionVector}
 use Rattle.plane.specs.declared.Site.{Site}
 use Rattle.plane.specs.Plane.{planeOf}
 use Rattle.prediction.specs.Luma.{modeOf, predictedBlock}
-use Rattle.hencouch.specs.Numbers.{geometryOf, vectorOf, siteOf}
+use Rattle.areas.specs.Numbers.{geometryOf, vectorOf, siteOf}
 use Rattle.hencouch.specs.Predicted.{lumaBlockReply}
 use borrow.Author.Needs.{needs}
 use Rattle.hencouch.proofs.predicted.hencouch_predict_luma_block.Statement.{statement}

@@ -14,7 +14,7 @@ use Rattle.prediction.specs.declared.PvopMbMotion.{PvopMbMotion}
 use Rattle.prediction.specs.declared.PvopMbMotion.the-variants.{OneMv}
 use Rattle.prediction.specs.Luma.{modeOf}
 use Rattle.prediction.specs.Macroblock.{macroblockLuma}
-use Rattle.hencouch.specs.Numbers.{geometryOf, vectorOf, pointOf}
+use Rattle.areas.specs.Numbers.{geometryOf, vectorOf, pointOf}
 use Rattle.hencouch.specs.Predicted.{lumaMacroblockReply}
 use borrow.Author.Needs.{needs}
 use Rattle.hencouch.proofs.predicted.hencouch_predict_luma_macroblock.Statement.{statement}

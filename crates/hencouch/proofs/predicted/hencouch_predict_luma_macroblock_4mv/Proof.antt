@@ -13,7 +13,7 @@ use Rattle.plane.specs.Plane.{planeOf}
 use Rattle.prediction.specs.declared.PvopMbMotion.{PvopMbMotion}
 use Rattle.prediction.specs.Luma.{modeOf}
 use Rattle.prediction.specs.Macroblock.{macroblockLuma}
-use Rattle.hencouch.specs.Numbers.{geometryOf, pointOf}
+use Rattle.areas.specs.Numbers.{geometryOf, pointOf}
 use Rattle.hencouch.specs.Predicted.{lumaMacroblockReply}
 use borrow.Author.Needs.{needs}
 use Rattle.hencouch.proofs.predicted.hencouch_predict_luma_macroblock_4mv.Statement.{

@@ -2,7 +2,7 @@
 use mathlib.Core.Path.{ap, _∙_}
 use Rattle.picture.specs.declared.Closed.{Closed}
 use Rattle.picture.specs.Run.{closeOf}
-use Rattle.hencouch.specs.Run.{totalsNumbers}
+use Rattle.areas.specs.Run.{totalsNumbers}
 use Rattle.hencouch.proofs.Runs.{numbered}
 use borrow.Author.Needs.{needs}
 use Rattle.hencouch.proofs.run.hencouch_close.Statement.{statement}

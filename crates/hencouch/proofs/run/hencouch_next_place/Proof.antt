@@ -1,7 +1,7 @@
 -- `hencouch::run::hencouch_next_place` meets its contract. Assumes nothing.
 use mathlib.Core.Path.{refl, ap, _∙_}
 use Rattle.picture.specs.Run.{nextPlace}
-use Rattle.hencouch.specs.Run.{placeNumbers}
+use Rattle.areas.specs.Run.{placeNumbers}
 use borrow.Author.Needs.{needs}
 use Rattle.hencouch.proofs.run.hencouch_next_place.Statement.{statement}
 use Rattle.hencouch.proofs.run.hencouch_next_place.Tie as tie

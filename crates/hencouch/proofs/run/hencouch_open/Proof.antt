@@ -1,6 +1,6 @@
 -- `hencouch::run::hencouch_open` meets its contract. Assumes nothing.
 use Rattle.picture.specs.declared.Opened.{Opened}
-use Rattle.hencouch.specs.Run.{runNumbers}
+use Rattle.areas.specs.Run.{runNumbers}
 use Rattle.hencouch.proofs.Runs.{numbered}
 use borrow.Author.Needs.{needs}
 use Rattle.hencouch.proofs.run.hencouch_open.Statement.{statement}

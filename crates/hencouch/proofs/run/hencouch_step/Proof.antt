@@ -4,8 +4,8 @@ use Rattle.macroblock.specs.declared.Settings.{Settings}
 use Rattle.macroblock.specs.Request.{request}
 use Rattle.picture.specs.declared.Run.{Run}
 use Rattle.picture.specs.Run.{nextPlace, StepAnswer, stepOf}
-use Rattle.hencouch.specs.Numbers.{geometryOf, sizeOf, macroblockSettings}
-use Rattle.hencouch.specs.Whole.{RecordAreas, recordAreas}
+use Rattle.areas.specs.Numbers.{geometryOf, sizeOf, macroblockSettings}
+use Rattle.areas.specs.Whole.{RecordAreas, recordAreas}
 use Rattle.hencouch.proofs.Runs.{stepped-out}
 use borrow.Author.Needs.{needs}
 use Rattle.hencouch.proofs.run.hencouch_step.Statement.{statement}

@@ -13,7 +13,7 @@ use Rattle.plane.specs.declared.Site.{Site}
 use Rattle.plane.specs.Plane.{planeOf}
 use Rattle.plane.specs.Reference.{blockReply}
 use Rattle.half_sample.specs.Block.{halfBlock}
-use Rattle.hencouch.specs.Numbers.{geometryOf, vectorOf, siteOf}
+use Rattle.areas.specs.Numbers.{geometryOf, vectorOf, siteOf}
 use borrow.Author.Needs.{needs}
 use Rattle.hencouch.proofs.sample.hencouch_interpolate_block_into.Statement.{statement}
 use Rattle.hencouch.proofs.sample.hencouch_interpolate_block_into.Tie as tie

@@ -12,7 +12,7 @@ use Rattle.record.specs.declared.MotionVector.{MotionVector}
 use Rattle.plane.specs.declared.Site.{Site}
 use Rattle.plane.specs.Plane.{planeOf}
 use Rattle.quarter_sample.specs.Block.{quarterBlock, quarterReply}
-use Rattle.hencouch.specs.Numbers.{geometryOf, vectorOf, siteOf}
+use Rattle.areas.specs.Numbers.{geometryOf, vectorOf, siteOf}
 use borrow.Author.Needs.{needs}
 use Rattle.hencouch.proofs.sample.hencouch_interpolate_block_qpel_into.Statement.{statement}
 use Rattle.hencouch.proofs.sample.hencouch_interpolate_block_qpel_into.Tie as tie

@@ -5,7 +5,7 @@ use mir.Syntax.{w32}
 use mir.ValLaws.{toZ-ofZ}
 use Rattle.half_sample.specs.declared.HalfPel.{HalfPel}
 use Rattle.half_sample.specs.Split.{splitHalf}
-use Rattle.hencouch.specs.Numbers.{flagOf}
+use Rattle.areas.specs.Numbers.{flagOf}
 use borrow.Author.Needs.{needs}
 use Rattle.hencouch.proofs.sample.hencouch_split_half_pel.Statement.{statement}
 use Rattle.hencouch.proofs.sample.hencouch_split_half_pel.Tie as tie

@@ -3,8 +3,8 @@ use mathlib.Core.Path.{ap, _∙_}
 use Rattle.macroblock.specs.declared.Settings.{Settings}
 use Rattle.macroblock.specs.Answer.{answerOf}
 use Rattle.macroblock.specs.Request.{Request, request}
-use Rattle.hencouch.specs.Numbers.{geometryOf, sizeOf, macroblockAt, macroblockSettings}
-use Rattle.hencouch.specs.Whole.{RecordAreas, recordAreas}
+use Rattle.areas.specs.Numbers.{geometryOf, sizeOf, macroblockAt, macroblockSettings}
+use Rattle.areas.specs.Whole.{RecordAreas, recordAreas}
 use Rattle.hencouch.proofs.Records.{record-laid-out}
 use borrow.Author.Needs.{needs}
 use Rattle.hencouch.proofs.whole.hencouch_code_macroblock.Statement.{statement}
