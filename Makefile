@@ -97,6 +97,7 @@ help:
 	@echo '                           FOLDER (/usr/local); DESTDIR goes before it'
 	@echo 'make install-check         a C program and a Rust one built by pkg-config over an install in target/'
 	@echo 'make named-files           whether the files of crates that README.md and docs/ name are there'
+	@echo 'make rules                 whether what docs/RULES.md and docs/PROMISES.md name is there, and named'
 	@echo 'FOLDER has the originals as src/src/half_sample.rs and so on. ARGS="--seed N --valid N'
 	@echo '--refused N" gives compare another seed and other counts.'
 
@@ -120,7 +121,7 @@ sample:
 	$(CC) -std=c99 -Wall -Wextra -O2 -o target/run/comb oracle/comb.c
 	target/run/comb > crates/broodline/stdin
 
-test:
+test: rules named-files readme-lines
 	rt fmt --check
 	rt ci
 
@@ -282,3 +283,9 @@ install-check: $(LIBRARY)
 named-files:
 	@grep -oh '[a-z_]*/\(src\|specs\|proofs\)/[A-Za-z_/]*\.\(rt\|antt\)' README.md docs/*.md | sort -u | \
 	  { lost=0; while read -r name; do test -f "crates/$$name" || { echo "there is no crates/$$name" >&2; lost=1; }; done; exit $$lost; }
+
+# Names of docs/RULES.md and docs/PROMISES.md against the tree, and the rules that comments cite.
+.PHONY: rules
+rules:
+	@awk -f oracle/rules.awk Makefile crates.txt README.md docs/*.md $$(find crates oracle bindings include -type f \( \
+	  -name '*.antt' -o -name '*.rt' -o -name '*.edit' -o -name '*.rs' -o -name '*.[ch]' -o -name '*.txt' \))
