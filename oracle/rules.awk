@@ -87,6 +87,12 @@ kind == "src" {
         names[found] = 1
 }
 
+part[1] == "oracle" && match($0, /(fn|struct|enum|type) [A-Za-z_0-9]+/) {
+    name = substr($0, RSTART, RLENGTH)
+    sub(/.* /, "", name)
+    names[name] = 1
+}
+
 FILENAME == "Makefile" {
     line = $0
     while (next_match("[A-Za-z_-]+"))
