@@ -75,7 +75,7 @@ endif
 
 help:
 	@echo 'make run                   broodline on a comb with two bees: a line a macroblock, in seconds'
-	@echo 'make test                  format check, then rt ci: the gate'
+	@echo 'make test                  names and layout, then rt ci: the gate'
 	@echo 'make broodline             the program with an exit status, as target/broodline'
 	@echo 'make staticlib             the static library for C and Rust'
 	@echo 'make compare DOCS=FOLDER   the library and broodline against the original Rust, at random'
