@@ -76,6 +76,7 @@ endif
 help:
 	@echo 'make run                   broodline on a comb with two bees: a line a macroblock, in seconds'
 	@echo 'make test                  names and layout, then rt ci: the gate'
+	@echo 'make rules                 whether what docs/RULES.md and docs/PROMISES.md name is there, and named'
 	@echo 'make broodline             the program with an exit status, as target/broodline'
 	@echo 'make staticlib             the static library for C and Rust'
 	@echo 'make compare DOCS=FOLDER   the library and broodline against the original Rust, at random'
@@ -97,7 +98,6 @@ help:
 	@echo '                           FOLDER (/usr/local); DESTDIR goes before it'
 	@echo 'make install-check         a C program and a Rust one built by pkg-config over an install in target/'
 	@echo 'make named-files           whether the files of crates that README.md and docs/ name are there'
-	@echo 'make rules                 whether what docs/RULES.md and docs/PROMISES.md name is there, and named'
 	@echo 'FOLDER has the originals as src/src/half_sample.rs and so on. ARGS="--seed N --valid N'
 	@echo '--refused N" gives compare another seed and other counts.'
 

@@ -1,5 +1,5 @@
 //! `cos_table`, which the original transform calls and which is in none of the original files.
-//! Rule T4 is its meaning: the entry for u, x by m = (2x + 1)u mod 32, from C[0..8].
+//! Document 01's rule is its meaning: the entry for u, x by m = (2x + 1)u mod 32, from C[0..8].
 
 const C: [f64; 9] = [
     1.0,

@@ -1,6 +1,6 @@
 //! `predict_luma_macroblock`, which the original search calls and which is in none of the original
-//! files. Rule S18 is its meaning: one vector, one 16 x 16 block by the interpolator of the mode.
-//! The search asks for one vector only.
+//! files. Document 01's rule is its meaning: one vector, one 16 x 16 block by the interpolator of
+//! the mode. The search asks for one vector only.
 
 use crate::bvop_prediction::BVopSampleMode;
 use crate::half_sample::{interpolate_block_into, ReferenceVop};

@@ -1,4 +1,4 @@
-//! The first eight bytes of a clip, and what turns them back, written from rules W1, W2.
+//! The first eight bytes of a clip, and what turns them back, written from document 01.
 
 /// Its length.
 pub const HEADER: usize = 8;

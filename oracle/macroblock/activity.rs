@@ -76,7 +76,7 @@ pub fn compare(options: &Options) -> Result<Summary, String> {
     Ok(Summary { equal: vec![(NAME, calls)], refusals: tally.finish()? })
 }
 
-/// Rule X12: one 255 among zeros has an activity of 255.
+/// Document 01's example: one 255 among zeros has an activity of 255.
 fn one_among_zeros() -> Result<(), String> {
     for place in 0..256 {
         let mut samples = [0; 256];

@@ -1,6 +1,6 @@
 //! Demand 3, sentence by sentence, of one accepted call and its answer. What the answer means is
 //! what the reader makes of it; sums on the lists are its sums too. Coefficients are the original
-//! transform's; their levels are worked out here, by rules L1 to L3. What the reader inverts is
+//! transform's; their levels are worked out here, by document 01's rule. What the reader inverts is
 //! also held to the original's inverse, as a nearer one than the standard's would pass unnoticed.
 
 use super::lists::{At, Bounds, List};
@@ -185,7 +185,7 @@ impl<'a> Demand<'a> {
         forward_dct_8x8(&rows, 8).concat()
     }
 
-    /// The level of a coefficient at a place of its block (rules L1 to L3).
+    /// Document 01's level of a coefficient at a place of its block.
     fn level(&self, f: i32, place: usize) -> i32 {
         let quantising = &self.coding.quantising;
         let q = quantising.quantiser as i32;

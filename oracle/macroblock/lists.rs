@@ -1,5 +1,5 @@
-//! The candidate lists of rules C5 to C14, written out entry by entry. The best so far is the first
-//! of least cost listed before; for a ring or a row, before its first entry.
+//! Document 01's candidate lists, written out entry by entry. The best so far is the first of least
+//! cost listed before; for a ring or a row, before its first entry.
 
 /// Half the side of the square that is listed sample by sample.
 const SQUARE: i32 = 8;

@@ -1,6 +1,6 @@
-//! Calls made by hand: the worked example (rule X11), the two blocks that tell other roundings
-//! apart, each bound on both sides, and the order of the refusals. What is wanted is written here
-//! and not worked out.
+//! Calls made by hand: document 01's example, the two blocks that tell other roundings apart, each
+//! bound on both sides, and the order of the refusals. What is wanted is written here and not
+//! worked out.
 
 use super::check::check;
 use super::damage;
