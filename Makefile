@@ -75,7 +75,8 @@ endif
 
 help:
 	@echo 'make run                   broodline on a comb with two bees: a line a macroblock, in seconds'
-	@echo 'make test                  format check, then rt ci: the gate'
+	@echo 'make test                  names and layout, then rt ci: the gate'
+	@echo 'make rules                 whether what docs/RULES.md and docs/PROMISES.md name is there, and named'
 	@echo 'make broodline             the program with an exit status, as target/broodline'
 	@echo 'make staticlib             the static library for C and Rust'
 	@echo 'make compare DOCS=FOLDER   the library and broodline against the original Rust, at random'
@@ -120,7 +121,7 @@ sample:
 	$(CC) -std=c99 -Wall -Wextra -O2 -o target/run/comb oracle/comb.c
 	target/run/comb > crates/broodline/stdin
 
-test:
+test: rules named-files readme-lines
 	rt fmt --check
 	rt ci
 
@@ -282,3 +283,9 @@ install-check: $(LIBRARY)
 named-files:
 	@grep -oh '[a-z_]*/\(src\|specs\|proofs\)/[A-Za-z_/]*\.\(rt\|antt\)' README.md docs/*.md | sort -u | \
 	  { lost=0; while read -r name; do test -f "crates/$$name" || { echo "there is no crates/$$name" >&2; lost=1; }; done; exit $$lost; }
+
+# Names of docs/RULES.md and docs/PROMISES.md against the tree, and the rules that comments cite.
+.PHONY: rules
+rules:
+	@awk -f oracle/rules.awk Makefile crates.txt README.md docs/*.md $$(find crates oracle bindings include -type f \( \
+	  -name '*.antt' -o -name '*.rt' -o -name '*.edit' -o -name '*.rs' -o -name '*.[ch]' -o -name '*.txt' \))

@@ -1,4 +1,4 @@
--- What the search's entries reply, and what their areas hold: document 01, "Turned back because of the input", 12 after 1 .. 9.
+-- What the search's entries reply, and what their areas hold: 12 after 1 .. 9 (rule O7).
 use Prim.Native.Nat.{ℕ}
 use mathlib.Core.Bool.{_&&_}
 use mathlib.Core.List.{List, [], _∷_}

@@ -1,4 +1,4 @@
--- For the reader: lines worked out, the document's own, a refusal, and one that fills a text to its last place. Assumes nothing.
+-- For the reader: lines worked out, that of rule W9, a refusal, and one that fills a text to its last place. Assumes nothing.
 use Prim.Native.Nat.{ℕ}
 use native.Mathlib.Omega.{arith}
 use mathlib.Core.Bool.{true, false}

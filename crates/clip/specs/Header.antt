@@ -1,4 +1,4 @@
--- The header of the program's input: eight bytes. Document 01, "Checked examples" and "Turned back because of the input".
+-- The header of the program's input: eight bytes. Rules W1, W2.
 use mathlib.Core.Bool.{_&&_, _||_}
 use mathlib.Core.List.{List}
 use Prim.Native.Nat.{ℕ, _+_, _*_}

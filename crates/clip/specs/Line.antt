@@ -1,4 +1,4 @@
--- The program's lines: words in ASCII, a space between two of them, a newline at the end. Document 01, "Checked examples".
+-- The program's lines: words in ASCII, a space between two of them, a newline at the end. Rules W5 to W7.
 use mathlib.Core.Bool.{Bool, cond}
 use mathlib.Core.List.{List, [], _∷_, _++_}
 use Prim.Native.Nat.{ℕ}

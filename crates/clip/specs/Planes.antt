@@ -1,4 +1,4 @@
--- How many bytes the planes have that follow a header. Document 01, "Checked examples"; a chroma side is half, rounded up.
+-- How many bytes the planes have that follow a header. Rule W3; a chroma side is half, rounded up.
 use Prim.Native.Nat.{_+_, _*_, _/_}
 use Rattle.refusal.specs.Reply.{done}
 use Rattle.clip.specs.declared.Head.{Head}

@@ -1,5 +1,5 @@
 // What the program broodline reads and prints, on slices and values: the header of its input, how long the planes are that follow it,
-// and its lines. Document 01, "Checked examples", the paragraph on `broodline`.
+// and its lines (rules W1 to W7).
 ghost use mathlib.Core.Path.{_≡_};
 ghost use mathlib.Core.Bool.{cond};
 ghost use mathlib.Core.List.{[]};
@@ -16,7 +16,7 @@ use refusal::Reply;
 
 mod write;
 
-// What a header says, under the names of the standard and of document 01.
+// What a header says, under the names of the standard and of the rules (rule W1).
 pub struct Head {
     pub width: usize,
     pub height: usize,

@@ -1,4 +1,4 @@
--- What turns a residual's entries back (document 01, "Turned back because of the input", in that order), and what they answer.
+-- What turns a residual's entries back (rules F6 to F14, O4, O5), and what they answer.
 use Prim.Native.Nat.{ℕ}
 use mathlib.Core.Bool.{_&&_}
 use mathlib.Core.List.{List}

@@ -1,4 +1,4 @@
--- Document 01's starred examples, a row each. They are about the definitions that the promises cite.
+-- The starred worked examples of docs/RULES.md, X, a row each. They are about the definitions that the promises cite.
 use Prim.Native.Nat.{ℕ}
 use mathlib.Core.Bool.{Bool, true, false, not, _&&_}
 use mathlib.Core.List.{List, [], _∷_}

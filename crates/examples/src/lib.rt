@@ -1,1 +1,1 @@
-// No code: document 01's starred examples, one table under one theorem about the definitions.
+// No code: the starred worked examples of docs/RULES.md, X, one table under one theorem about the definitions.

@@ -1,4 +1,4 @@
--- The transform of a block of 64 residuals, eight to a row (document 01, "Transform"): rows, then columns.
+-- The transform of a block of 64 residuals, eight to a row (rule T1): rows, then columns.
 use Prim.Native.Nat.{ℕ, _+_, _*_, _/_, _%_}
 use mathlib.Core.List.{List}
 use lib.IntN.{ℤ, pos}

@@ -1,4 +1,4 @@
--- The cosines (document 01, "Transform"): C, the rule in m, and the table of 64.
+-- The cosines (rule T4): C, the rule in m, and the table of 64.
 use Prim.Native.Nat.{ℕ, _+_, _-_, _*_, _/_, _%_}
 use mathlib.Core.Bool.{cond}
 use mathlib.Core.List.{List, [], _∷_}

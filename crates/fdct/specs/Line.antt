@@ -1,4 +1,4 @@
--- The 8-point transform of a line (document 01, "Transform"): each product and each sum is one double operation, in the order given.
+-- The 8-point transform of a line (rules T2, T3): each product and each sum is one double operation, in the order given.
 use Prim.Native.Nat.{ℕ, zero, suc}
 use mathlib.Core.Bool.{cond}
 use lib.Dec.{eqb}

@@ -1,4 +1,4 @@
--- What turns a transform back (document 01, "Turned back because of the input", 12 and 13). A residual of another length than 64 has
+-- What turns a transform back (rules F12, F13, O5). A residual of another length than 64 has
 -- no answer that an output area could be as long as, so it is 12 too.
 use Prim.Native.Nat.{ℕ}
 use mathlib.Core.Bool.{_&&_}

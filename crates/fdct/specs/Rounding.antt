@@ -1,4 +1,4 @@
--- A double as a coefficient (document 01, "Transform"): to the nearest, halves away from zero, then clamped to -2,048..2,047.
+-- A double as a coefficient (rules T5, T6): to the nearest, halves away from zero, then clamped to -2,048..2,047.
 use Prim.Native.Nat.{ℕ, _+_, _*_, _/_}
 use mathlib.Core.Bool.{Bool, true, false}
 use lib.IntN.{ℤ, pos, negsuc, negℤ}

@@ -1,4 +1,4 @@
-// The cosines as constants: the doubles nearest document 01's decimals, and the table of its rule.
+// The cosines as constants: the doubles nearest the decimals of rule T4, and the table of its cosines.
 
 pub const C0: f64 = 1.0;
 

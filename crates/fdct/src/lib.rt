@@ -1,4 +1,4 @@
-// The 8 x 8 forward transform of residuals, on doubles (document 01, "Transform"): rows, then columns.
+// The 8 x 8 forward transform of residuals, on doubles (rules T1 to T6): rows, then columns.
 ghost use mathlib.Core.Path.{_≡_};
 ghost use lib.ListN.{length};
 ghost use Rattle.basis.specs.Lists.{tabulate};

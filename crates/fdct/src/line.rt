@@ -1,4 +1,4 @@
-// The 8-point transform of a block's eight columns side by side. Each sum runs in the order of document 01.
+// The 8-point transform of a block's eight columns side by side. Each sum runs in the order of rule T2.
 ghost use mathlib.Core.Path.{_≡_};
 ghost use Prim.Native.Nat.{_+_, _*_, _<_};
 ghost use lib.Ieee.{add, mul, binary64};

@@ -1,4 +1,4 @@
--- A block that is searched for in a reference, and its sums of absolute differences. Document 01, "Candidate rule".
+-- A block that is searched for in a reference, and its sums of absolute differences. Rules C2, B4.
 use Prim.Native.Nat.{ℕ, _+_, _*_, _/_, _%_}
 use mathlib.Core.List.{List}
 use lib.IntN.{_+ℤ_}

@@ -1,4 +1,4 @@
--- What a displacement costs, and the better of two. Document 01, "Candidate rule".
+-- What a displacement costs, and the better of two. Rules C3, C5.
 use Prim.Native.Nat.{ℕ, _-_}
 use mathlib.Core.Bool.{cond}
 use lib.Dec.{ltb, eqb}

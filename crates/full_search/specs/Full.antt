@@ -1,4 +1,4 @@
--- The full-sample lists of one vector and of four, each one list, and their winners. Document 01, "Candidate rule".
+-- The full-sample lists of one vector and of four, each one list, and their winners. Rules C5 to C9, C14.
 use Prim.Native.Nat.{ℕ}
 use mathlib.Core.Bool.{cond}
 use mathlib.Core.List.{List, _∷_, _++_}

@@ -1,4 +1,4 @@
--- Displacements by whole samples, in rows. Document 01, "Candidate rule".
+-- Displacements by whole samples, in rows. Rules C6 to C8.
 use Prim.Native.Nat.{ℕ, _+_, _-_, _*_, _/_, max, min}
 use mathlib.Core.Bool.{cond}
 use mathlib.Core.List.{List, [], _∷_}

@@ -1,4 +1,4 @@
--- What the public searches answer, with their refusals, and the sum of two blocks that are listed row by row. Document 01, "Candidate rule".
+-- What the public searches answer, with their refusals, and the sum of two blocks that are listed row by row. Rules C9, C14, C16.
 use Prim.Native.Nat.{ℕ}
 use mathlib.Core.Bool.{_&&_}
 use mathlib.Core.List.{List}

@@ -1,4 +1,4 @@
--- What turns a prediction back where its mode is a number: document 01, "Turned back because of the input", 2 before 3.
+-- What turns a prediction back where its mode is a number: 2 before 3 (rules F2, O1).
 use Prim.Native.Nat.{ℕ}
 use Rattle.refusal.specs.declared.Reply.{Reply}
 use Rattle.refusal.specs.Reply.{andThen}

@@ -1,4 +1,4 @@
--- What the entry that searches and codes answers (document 01, "Added, not in the Rust"), for every request.
+-- What the entry that searches and codes answers (rules M1 to M3), for every request.
 use Prim.Native.Nat.{ℕ}
 use mathlib.Core.Bool.{cond}
 use mathlib.Core.List.{List}

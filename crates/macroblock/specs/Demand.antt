@@ -1,5 +1,5 @@
--- DEMAND 3 (document 00), of a request that was accepted and its answer, as the reader of document 01 gets it at a rounding type, which
--- is 0. A field for each sentence; the sentence on ranges and lists is `Found` of search, field by field, over the reader's own sums.
+-- DEMAND 3 (rules D4 to D9), of an accepted request and its answer, as the reader (rules R1 to R6) gets it at a rounding type, which is 0.
+-- A field for each sentence; the sentence on ranges and lists is `Found` of search, field by field, over the reader's own sums.
 use Prim.Native.Nat.{ℕ, _+_, _*_, _/_, _≤_, _<_}
 use mathlib.Core.Bool.{false}
 use mathlib.Core.List.{List, []}

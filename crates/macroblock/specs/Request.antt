@@ -1,4 +1,4 @@
--- A call's arguments as one value, and what turns it back, in the order of document 01's list: 1 2 3 4 5 6 7 8 10 11 12 14.
+-- A call's arguments as one value, and what turns it back, in its order (rules O1 to O6): 1 2 3 4 5 6 7 8 10 11 12 14.
 use Prim.Native.Nat.{ℕ}
 use mathlib.Core.Bool.{_&&_, _||_}
 use mathlib.Core.List.{List}

@@ -1,5 +1,5 @@
--- A picture's run (document 01, "Added, not in the Rust") as a machine on values, and what turns it back (document 01, "Turned back
--- because of the run"): 21, 22, 23.
+-- A picture's run (rules U1 to U6) as a machine on values, and what turns it back because of the run (rules F21 to F23, U4):
+-- 21, 22, 23.
 use Prim.Native.Nat.{ℕ, _+_, _*_, _/_, _%_, _^_}
 use mathlib.Core.Bool.{_&&_}
 use mathlib.Core.List.{List}

@@ -1,4 +1,4 @@
--- What turns an interpolation back, in the order of document 01's list.
+-- What turns an interpolation back, in its order (rules F4, F5, F8, F12, F14, O2, O3).
 use Prim.Native.Nat.{ℕ, _+_, _-_, _*_}
 use mathlib.Core.Bool.{Bool, _&&_, _||_}
 use mathlib.Core.List.{List}

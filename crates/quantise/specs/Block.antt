@@ -1,4 +1,4 @@
--- Blocks of 64, and what turns a call back (document 01, "Turned back because of the input", 10 to 13, in that order).
+-- Blocks of 64, and what turns a call back (rules F10 to F13, O4).
 -- A weight stands at its coefficient's own place, as in the Rust.
 use Prim.Native.Nat.{ℕ}
 use mathlib.Core.Bool.{Bool, cond, not, _&&_, _||_}

@@ -1,4 +1,4 @@
--- Levels for inter blocks, and what a level stands for (document 01, "Levels"). A difference of sizes that would be below 0 is 0, as ℕ has it.
+-- Levels for inter blocks, and what a level stands for (rules L1 to L4). A difference of sizes that would be below 0 is 0, as ℕ has it.
 use Prim.Native.Nat.{ℕ, _+_, _*_, _-_, _/_, _%_}
 use mathlib.Core.Bool.{cond}
 use lib.Dec.{eqb}

@@ -1,4 +1,4 @@
--- How near a level comes to its coefficient (what is asked of levels under the second method: demand 3's last sentence).
+-- How near a level comes to its coefficient (rule L5; demand 3's last sentence, D8).
 use Prim.Native.Nat.{ℕ, _+_, _*_, _/_, _≤_, _<_}
 use mathlib.Core.Bool.{cond}
 use mathlib.Core.List.{List}

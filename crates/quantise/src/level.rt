@@ -1,4 +1,4 @@
-// One coefficient or level: both forward methods for inter blocks, and the inverse of the second (document 01, "Levels"). Signed
+// One coefficient or level: both forward methods for inter blocks, and the inverse of the second (rules L1 to L4). Signed
 // throughout; a quotient drops its fraction toward 0.
 ghost use mathlib.Core.Path.{_≡_};
 ghost use Prim.Native.Nat.{_-_, _≤_, _<_};

@@ -1,4 +1,4 @@
-// Levels of a block for inter coding, by either method, and the inverse of the second (document 01, "Levels").
+// Levels of a block for inter coding, by either method, and the inverse of the second (rules L1 to L5).
 ghost use mathlib.Core.Path.{_≡_};
 ghost use mathlib.Core.Bool.{true, false, not, _||_};
 ghost use lib.ListN.{length};

@@ -1,4 +1,4 @@
--- What the reader of demand 3 is handed (document 01, "The reader of demand 3"): the coder's answer, which is the record with its six
+-- What the reader of demand 3 is handed (rule R1): the coder's answer, which is the record with its six
 -- event areas, and these of the call's arguments. Neither the source nor the lent prediction is among them.
 use Prim.Native.Nat.{ℕ, _*_}
 use mathlib.Core.List.{List}

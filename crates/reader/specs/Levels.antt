@@ -1,4 +1,4 @@
--- The reader's 384 levels, in six blocks (four luma, Cb, Cr), and what they stand for (document 01, "The reader of demand 3").
+-- The reader's 384 levels, in six blocks (four luma, Cb, Cr), and what they stand for (rules R3 to R6).
 use Prim.Native.Nat.{ℕ, _%_}
 use mathlib.Core.Bool.{cond}
 use mathlib.Core.List.{List}

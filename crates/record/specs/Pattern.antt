@@ -1,4 +1,4 @@
--- Which of a macroblock's six blocks are coded, as its two patterns say: four of luma, Cb, Cr. Document 01, "Macroblock".
+-- Which of a macroblock's six blocks are coded, as its two patterns say: four of luma, Cb, Cr. Rule P2.
 use Prim.Native.Nat.{ℕ}
 use mathlib.Core.Bool.{Bool, cond, not}
 use mathlib.Core.List.{[], _∷_}

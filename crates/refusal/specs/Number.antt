@@ -1,4 +1,4 @@
--- The number of each refusal in the lists of document 01, and of a reply: 0 where nothing is refused.
+-- The number of each refusal in the two lists (rules F1 to F23), and of a reply: 0 where nothing is refused.
 use Prim.Native.Nat.{ℕ}
 use Rattle.refusal.specs.declared.Reply.{Reply}
 use Rattle.refusal.specs.declared.Reply.the-variants.{Done, Refused}

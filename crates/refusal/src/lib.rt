@@ -1,4 +1,4 @@
-// Why a call is turned back, under document 01's numbers; the one reply; and what lists of refusals are written with.
+// Why a call is turned back, by its number (rules F1 to F23); the one reply; and what lists of refusals are written with.
 ghost use mathlib.Core.Path.{_≡_};
 ghost use mathlib.Core.Bool.{_&&_, _||_};
 ghost use Prim.Native.Nat.{_*_};

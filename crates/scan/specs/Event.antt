@@ -1,4 +1,4 @@
--- Events of a block's levels in scan order (document 01, "Scan and events"): each a run of zeros and the non-zero level after it.
+-- Events of a block's levels in scan order (rules E5 to E7): each a run of zeros and the non-zero level after it.
 use Prim.Native.Nat.{ℕ, zero, suc, _-_}
 use mathlib.Core.Bool.{Bool, false, cond}
 use mathlib.Core.List.{List, [], _∷_, _++_, map}

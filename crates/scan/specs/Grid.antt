@@ -1,4 +1,4 @@
--- The scan grids of Figure 7-4 of the standard, as src/scan.rs has them, and the scan by a grid (document 01, "Scan and events").
+-- The scan grids of Figure 7-4 of the standard, as src/scan.rs has them, and the scan by a grid (rules E1 to E4).
 use Prim.Native.Nat.{ℕ, zero, suc, _/_, _%_, _<_}
 use mathlib.Core.Bool.{Bool, cond, _&&_}
 use mathlib.Core.List.{List, [], _∷_}

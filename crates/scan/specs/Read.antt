@@ -1,4 +1,4 @@
--- Reading a block's events (document 01, "The reader of demand 3"), and the promise that it gives the block's levels back.
+-- Reading a block's events (rules R4, R5), and the promise that it gives the block's levels back.
 -- The reader goes by the marks alone and never sees the count.
 use Prim.Native.Nat.{ℕ, _+_}
 use mathlib.Core.Bool.{cond}

@@ -1,4 +1,4 @@
--- What turns a call back (document 01, "Turned back because of the input", 12 to 14, in that order), and the answer on events.
+-- What turns a call back (rules F12 to F14, O5), and the answer on events.
 use Prim.Native.Nat.{ℕ}
 use mathlib.Core.Bool.{_&&_}
 use mathlib.Core.List.{List}

@@ -1,4 +1,4 @@
-// The scan grids, scan and inverse scan of a block's levels, and its events (document 01, "Scan and events").
+// The scan grids, scan and inverse scan of a block's levels, and its events (rules E1 to E8).
 ghost use mathlib.Core.Path.{_≡_};
 ghost use lib.ListN.{length};
 ghost use Rattle.refusal.specs.declared.Reply.the-variants.{Done};

@@ -1,4 +1,4 @@
--- What the two entries answer: one vector of a macroblock with its sum, or four. They search at rounding type 0. Document 01, "Candidate rule".
+-- What the two entries answer: one vector of a macroblock with its sum, or four. They search at rounding type 0. Rules C13 to C16.
 use lib.ListN.{replicate}
 use Rattle.basis.specs.Lists.{tabulate}
 use Rattle.refusal.specs.declared.Reply.{Reply}

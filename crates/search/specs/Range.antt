@@ -1,4 +1,4 @@
--- The range of vectors, and how far the full-sample search goes. Document 01, "Candidate rule"; Table 7-9.
+-- The range of vectors, and how far the full-sample search goes. Rules C1, C4; Table 7-9.
 use Prim.Native.Nat.{ℕ, _-_, _*_, _/_, _^_, max}
 use mathlib.Core.Bool.{Bool, cond, _&&_}
 use lib.Dec.{eqb}

@@ -1,4 +1,4 @@
--- A search's arguments as one value, what they speak of, and what turns them back, in the order of document 01's list.
+-- A search's arguments as one value, what they speak of, and what turns them back, in their order (rules F1 to F9, O1).
 use Prim.Native.Nat.{ℕ}
 use mathlib.Core.Bool.{_||_}
 use mathlib.Core.List.{List}

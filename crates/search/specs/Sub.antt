@@ -1,4 +1,4 @@
--- The sub-sample list: its start, the half ring, in quarter mode the quarter ring around the best so far. Document 01, "Candidate rule".
+-- The sub-sample list: its start, the half ring, in quarter mode the quarter ring around the best so far. Rules C10 to C13.
 use Prim.Native.Nat.{ℕ, zero, suc, _*_, _/_, _%_}
 use mathlib.Core.Bool.{cond}
 use mathlib.Core.List.{List, [], _∷_}
