@@ -1,6 +1,6 @@
 -- Structs from the numbers that C hands over.
 use Prim.Native.Nat.{ℕ, _+_, _*_}
-use mathlib.Core.Bool.{Bool, not, cond, _||_}
+use mathlib.Core.Bool.{Bool, not, cond}
 use mathlib.Core.List.{List}
 use lib.Dec.{eqb}
 use lib.IntN.{ℤ, pos}
@@ -9,6 +9,7 @@ use Rattle.refusal.specs.declared.Refusal.the-variants.{Mode}
 use Rattle.refusal.specs.declared.Reply.{Reply}
 use Rattle.refusal.specs.declared.Reply.the-variants.{Done}
 use Rattle.refusal.specs.Reply.{unless}
+use Rattle.refusal.specs.Bounds.{isMode}
 use Rattle.record.specs.declared.MotionVector.{MotionVector}
 use Rattle.plane.specs.declared.Geometry.{Geometry}
 use Rattle.plane.specs.declared.Point.{Point}
@@ -56,7 +57,7 @@ fourMotion l = FourMv (pairOf l 0) (pairOf l 1) (pairOf l 2) (pairOf l 3)
 
 -- 2: a mode that is neither 0, half samples, nor 1, quarter samples
 unfoldable pub modeNumberReply : ℕ → Reply
-modeNumberReply mode = unless (eqb mode 0 || eqb mode 1) Mode Done
+modeNumberReply mode = unless (isMode mode) Mode Done
 
 abbrev pub macroblockSettings : ℕ → ℕ → ℕ → ℕ → ℕ → ℕ → ℕ → Settings
 macroblockSettings fcode mode bpp quantiser first vectors scan =

@@ -1,13 +1,14 @@
 -- The header of the program's input: eight bytes. Rules W1, W2.
-use mathlib.Core.Bool.{_&&_, _||_}
+use mathlib.Core.Bool.{_&&_}
 use mathlib.Core.List.{List}
 use Prim.Native.Nat.{ℕ, _+_, _*_}
-use lib.Dec.{leb, eqb}
+use lib.Dec.{leb}
 use lib.ListN.{getD}
 use Rattle.refusal.specs.declared.Refusal.the-variants.{Fcode, Mode, SourceSide, Quantiser, Length, Choice}
 use Rattle.refusal.specs.declared.Reply.{Reply}
 use Rattle.refusal.specs.declared.Reply.the-variants.{Done}
 use Rattle.refusal.specs.Reply.{unless, done}
+use Rattle.refusal.specs.Bounds.{isFcode, isMode, isQuantiser, isVectorCount}
 use Rattle.refusal.specs.Test.{between}
 use Rattle.clip.specs.declared.Head.{Head}
 use Rattle.clip.specs.declared.Header.{Header}
@@ -30,11 +31,11 @@ noHead = record { width = 0; height = 0; fcode = 0; mode = 0; quantiser = 0; vec
 -- 1, 2, 6, 10, 14: a whole header, in the order of the list. A side is refused by 6, and never by 4.
 unfoldable pub headReply : Head → Reply
 headReply h =
-    unless (between 1 7 (h .fcode)) Fcode
-    (unless (eqb (h .mode) 0 || eqb (h .mode) 1) Mode
+    unless (isFcode (h .fcode)) Fcode
+    (unless (isMode (h .mode)) Mode
     (unless (between 1 176 (h .width) && between 1 144 (h .height)) SourceSide
-    (unless (between 1 31 (h .quantiser)) Quantiser
-    (unless (eqb (h .vectors) 1 || eqb (h .vectors) 4) Choice Done))))
+    (unless (isQuantiser (h .quantiser)) Quantiser
+    (unless (isVectorCount (h .vectors)) Choice Done))))
 
 -- 12 for a header cut short: the first n of its bytes s were there
 abbrev pub headerReply : List ℕ → ℕ → Reply

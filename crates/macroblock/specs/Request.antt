@@ -1,6 +1,6 @@
 -- A call's arguments as one value, and what turns it back, in its order (rules O1 to O6): 1 2 3 4 5 6 7 8 10 11 12 14.
 use Prim.Native.Nat.{ℕ}
-use mathlib.Core.Bool.{_&&_, _||_}
+use mathlib.Core.Bool.{_&&_}
 use mathlib.Core.List.{List}
 use lib.Dec.{eqb}
 use lib.IntN.{ℤ}
@@ -9,6 +9,7 @@ use Rattle.refusal.specs.declared.Refusal.the-variants.{Length, Choice}
 use Rattle.refusal.specs.declared.Reply.{Reply}
 use Rattle.refusal.specs.declared.Reply.the-variants.{Done}
 use Rattle.refusal.specs.Reply.{unless, andThen}
+use Rattle.refusal.specs.Bounds.{isVectorCount}
 use Rattle.refusal.specs.Test.{between}
 use Rattle.plane.specs.declared.Geometry.{Geometry}
 use Rattle.plane.specs.declared.SourceSize.{SourceSize}
@@ -96,7 +97,7 @@ lengthsReply n =
 
 -- 14: vector count not 1 or 4; scan number not 0..2
 unfoldable pub choiceReply : ℕ → ℕ → Reply
-choiceReply vectors scan = unless ((eqb vectors 1 || eqb vectors 4) && between 0 2 scan) Choice Done
+choiceReply vectors scan = unless (isVectorCount vectors && between 0 2 scan) Choice Done
 
 -- the whole list
 unfoldable pub requestReply : Settings → Geometry → SourceSize → MacroblockPlace → List ℕ → Lengths → Reply

@@ -11,7 +11,8 @@ use Rattle.refusal.specs.declared.Refusal.the-variants.{Quantiser, Weight, Leng
 use Rattle.refusal.specs.declared.Reply.{Reply}
 use Rattle.refusal.specs.declared.Reply.the-variants.{Done}
 use Rattle.refusal.specs.Reply.{unless, andThen}
-use Rattle.refusal.specs.Test.{between, every, allInRange}
+use Rattle.refusal.specs.Bounds.{isQuantiser}
+use Rattle.refusal.specs.Test.{every, allInRange}
 use Rattle.quantise.specs.Level.{levelByQuantiser, levelByWeight, inverseByQuantiser}
 
 -- the level at place i, by the first method where `first` is true
@@ -43,7 +44,7 @@ noZero weights = every (λ w. not (eqb w 0)) weights
 
 -- 10: quantiser not 1..31. 11: first method, a zero weight
 unfoldable pub weightReply : ℕ → Bool → List ℕ → Reply
-weightReply q first weights = unless (between 1 31 q) Quantiser (unless (not first || noZero weights) Weight Done)
+weightReply q first weights = unless (isQuantiser q) Quantiser (unless (not first || noZero weights) Weight Done)
 
 -- 10, 11, 12, 13, of coefficients, the quantiser, the method, weights, and an output area of n places
 unfoldable pub quantiseReply : List ℤ → ℕ → Bool → List ℕ → ℕ → Reply
@@ -55,6 +56,6 @@ quantiseReply fs q first weights n =
 -- 10, 12, 13, of levels, the quantiser, and an output area of n places
 unfoldable pub inverseReply : List ℤ → ℕ → ℕ → Reply
 inverseReply levels q n =
-    unless (between 1 31 q) Quantiser
+    unless (isQuantiser q) Quantiser
     (unless (eqb (length levels) 64 && eqb n 64) Length
     (unless (allInRange (negsuc 2046) (pos 2047) levels) Range Done))

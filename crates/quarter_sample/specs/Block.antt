@@ -7,7 +7,7 @@ use Rattle.refusal.specs.declared.Refusal.the-variants.{BitsPerPixel}
 use Rattle.refusal.specs.declared.Reply.{Reply}
 use Rattle.refusal.specs.declared.Reply.the-variants.{Done}
 use Rattle.refusal.specs.Reply.{unless, andThen}
-use Rattle.refusal.specs.Test.{between}
+use Rattle.refusal.specs.Bounds.{isBits}
 use Rattle.record.specs.declared.MotionVector.{MotionVector}
 use Rattle.plane.specs.declared.Geometry.{Geometry}
 use Rattle.plane.specs.declared.Site.{Site}
@@ -32,7 +32,7 @@ quarterBlock p site v rounding bpp = raster (site .width) (site .height) (quarte
 
 -- 3: bits per pixel outside 1..8
 abbrev pub bitsReply : ℕ → Reply
-bitsReply bpp = unless (between 1 8 bpp) BitsPerPixel Done
+bitsReply bpp = unless (isBits bpp) BitsPerPixel Done
 
 -- 3, then 4, 5, 8, 12, 14
 unfoldable pub quarterReply : ℕ → Geometry → ℕ → MotionVector → Site → ℕ → Reply

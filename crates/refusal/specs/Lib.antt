@@ -1,3 +1,4 @@
+pub mod Bounds
 pub mod Number
 pub mod Reply
 pub mod Test

@@ -8,7 +8,7 @@ use Rattle.refusal.specs.declared.Refusal.the-variants.{Fcode, Mode, BitsPerPix
 use Rattle.refusal.specs.declared.Reply.{Reply}
 use Rattle.refusal.specs.declared.Reply.the-variants.{Done}
 use Rattle.refusal.specs.Reply.{unless, andThen}
-use Rattle.refusal.specs.Test.{between}
+use Rattle.refusal.specs.Bounds.{isFcode, isMode, isBits}
 use Rattle.record.specs.declared.MotionVector.{MotionVector}
 use Rattle.plane.specs.declared.Geometry.{Geometry}
 use Rattle.plane.specs.declared.SourceSize.{SourceSize}
@@ -70,9 +70,9 @@ sought q = macroblock (q .source) (q .size) (q .place) (planeOf (q .reference) (
 -- 1, 2, 3
 unfoldable pub settingsReply : ℕ → ℕ → ℕ → Reply
 settingsReply fcode mode bpp =
-    unless (between 1 7 fcode) Fcode
-    (unless (eqb mode 0 || eqb mode 1) Mode
-    (unless (eqb mode 0 || between 1 8 bpp) BitsPerPixel Done))
+    unless (isFcode fcode) Fcode
+    (unless (isMode mode) Mode
+    (unless (eqb mode 0 || isBits bpp) BitsPerPixel Done))
 
 -- 1 .. 8
 unfoldable pub searchReply : SearchRequest → Reply
