@@ -1,6 +1,7 @@
 # `make` lists the targets.
 
-# The folder that has src/src/half_sample.rs and the other originals.
+# The originals: a folder that has src/src/half_sample.rs and the others, or a checkout of the
+# repository that they are from, which has src/half_sample.rs.
 DOCS ?=
 # Words for compare: --seed N --valid N --refused N.
 ARGS :=
@@ -12,16 +13,18 @@ WANTED := oracle/wanted.txt
 LIBDIR := target/staticlib
 
 LIBRARY := $(LIBDIR)/libhencouch.a
+HEADER := include/hencouch.h
 BROODLINE := target/bin/broodline
 SOURCES := $(wildcard crates.txt) $(shell find crates -path '*/src/*' -name '*.rt' 2>/dev/null)
 ORIGINALS := half_sample.rs quarter_sample.rs fdct.rs inverse_quant.rs quantise.rs scan.rs
 # Parts of files that as a whole want others that are not to be had.
 CUT_FILES := ivop_encode pvop_encode reconstruct
-CUT_ivop_encode := scan_positions forward_scan qfs_to_events FrameView impl:FrameView field_dct_luma
+CUT_ivop_encode := scan_positions forward_scan qfs_to_events FrameView impl:FrameView field_dct_luma \
+  EncoderConfig::forced_scan
 CUT_pvop_encode := SEARCH_RANGE mv_range search_window_pels sad_full_pel units_per_pel sad_subpel \
   full_pel_window refine_subpel estimate_motion sad_full_pel_block8 sad_subpel_block8 \
   estimate_motion_4mv source_luma_mb intra_activity quantise_inter_block quantise_inter_residual \
-  MacroblockResidual macroblock_residual inter_cbp
+  MacroblockResidual macroblock_residual inter_cbp inter_scan
 CUT_reconstruct := MACROBLOCK_LUMA_SIDE MACROBLOCK_CHROMA_SIDE InterPredictionMacroblock
 # The function that sums a block, and how often psadbw has to be in it: 2 a turn of 8 for 16 rows of
 # 16, and 4 for 8 rows of 8.
@@ -138,41 +141,30 @@ broodline: $(SOURCES)
 	rt staticlib play
 	$(CC) -std=c99 -Wall -Wextra -O2 -o target/broodline oracle/broodline.c $(LIBDIR)/libplay.a
 
-# $(call cut,FILE,NAMES): the parts with these names, unchanged, each of which has to be there once.
-# A function, a struct and an impl block, whose name is impl:TYPE, end with their brace; a constant
-# and a type's other name end with their line.
-define cut
-for name in $(2); do \
-	  sed -n -e "/^[a-z()]* *fn $$name[(<]/,/^}/p" -e "/^[a-z()]* *struct $$name[ <]/,/^}/p" \
-	    -e "/^$${name%%:*}[^ ]* $${name#*:}[ <]/,/^}/p" \
-	    -e "/^[a-z()]* *const $$name:/p" -e "/^[a-z()]* *type $$name /p" \
-	    $(DOCS)/src/src/$(1).rs > target/oracle/part; \
-	  test "$$(grep -c '^}\|^[a-z()]* *const \|^[a-z()]* *type ' target/oracle/part)" = 1 \
-	    || { echo "$$name is not in $(1).rs once" >&2; exit 1; }; \
-	  cat target/oracle/part; \
-	done > target/oracle/$(1)_cut.rs
-
-endef
+# Where the originals are; nothing where they are not.
+DOCS_SRC = $(if $(DOCS),$(patsubst %/half_sample.rs,%,$(firstword \
+  $(wildcard $(DOCS)/src/src/half_sample.rs $(DOCS)/src/half_sample.rs))))
 
 # The originals, unchanged, beside the programs that name them as modules.
 originals:
-	$(if $(DOCS),,$(error DOCS is missing: the folder that has src/src/half_sample.rs))
-	$(foreach file,$(ORIGINALS) $(CUT_FILES:%=%.rs),$(if $(wildcard $(DOCS)/src/src/$(file)),,\
-	  $(error $(DOCS)/src/src/$(file) is missing: DOCS is to be the folder above src/src)))
+	$(if $(DOCS),,$(error DOCS is missing: DOCS=FOLDER, where FOLDER has the original Rust as src/src/half_sample.rs and so on, \
+	  or is a checkout of OxideAV/oxideav-mpeg4video, which has src/half_sample.rs))
+	$(if $(DOCS_SRC),,$(error DOCS=$(DOCS) has neither src/src/half_sample.rs nor src/half_sample.rs))
+	$(foreach file,$(ORIGINALS) $(CUT_FILES:%=%.rs),$(if $(wildcard $(DOCS_SRC)/$(file)),,\
+	  $(error $(DOCS_SRC)/$(file) is missing)))
 	rm -rf target/oracle
 	mkdir -p target/oracle
 	cp -R oracle/. target/oracle
-	cp $(ORIGINALS:%=$(DOCS)/src/src/%) target/oracle
-	$(foreach file,$(CUT_FILES),$(call cut,$(file),$(CUT_$(file))))
+	cp $(ORIGINALS:%=$(DOCS_SRC)/%) target/oracle
+	$(foreach file,$(CUT_FILES),sh oracle/cut.sh $(DOCS_SRC)/$(file).rs $(CUT_$(file)) > target/oracle/$(file)_cut.rs && ) :
 
 compare: originals $(LIBRARY) $(BROODLINE)
 	$(call crate,target/oracle,$(LIBDIR))
 	$(RUST) --extern hencouch=target/oracle/libhencouch.rlib -o target/oracle/compare target/oracle/compare.rs
-	target/oracle/compare --broodline $(BROODLINE) $(ARGS)
+	target/oracle/compare --broodline $(BROODLINE) --header $(HEADER) $(ARGS)
 
 # The stored calls, of the originals alone: the library that the program would link is empty.
 CALLS := crates/compare/data/calls
-HEADER := include/hencouch.h
 STORE := $(RUST) --extern hencouch=libhencouch.rlib -o store stored.rs
 
 stored: originals

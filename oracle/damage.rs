@@ -5,6 +5,18 @@
 use crate::ask::{Reference, Source};
 use crate::random::Random;
 
+/// What is to be wrong with a call: one of the numbers alone, or several at once, so that the order
+/// in which they are looked at shows. A mode that is neither is not quarter mode, so of 2 and 3 only
+/// one can be.
+pub fn choose(numbers: &[u8], random: &mut Random) -> Vec<u8> {
+    let always = random.pick(numbers);
+    let other = if always == 3 || (always != 2 && random.chance(50)) { 2 } else { 3 };
+    let share = random.pick(&[0, 10, 40]);
+    let mut chosen = numbers.to_vec();
+    chosen.retain(|&n| n == always || (n != other && random.chance(share)));
+    chosen
+}
+
 pub fn bad_geometry(r: &Reference) -> bool {
     let side = 1..=4096;
     !side.contains(&r.width) || !side.contains(&r.height) || !(r.width..=8192).contains(&r.stride)
