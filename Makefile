@@ -3,7 +3,7 @@
 # The originals: a folder that has src/src/half_sample.rs and the others, or a checkout of the
 # repository that they are from, which has src/half_sample.rs.
 DOCS ?=
-# Words for compare: --seed N --valid N --refused N.
+# Words for compare: --seed N --valid N --refused N, or --help.
 ARGS :=
 # The crate whose rows bench times, and no others; empty: all rows.
 ONLY :=
@@ -73,7 +73,7 @@ BENCH_LIBDIR := target/only/$(TIMED)/target/staticlib
 BENCH_NEEDS := only $(if $(filter broodline,$(TIMED)),$(BROODLINE))
 endif
 
-.PHONY: run sample broodline help test staticlib compare bench only machine-code call readme-lines named-files originals stored stored-changed replay
+.PHONY: run sample broodline help test staticlib compare bench only machine-code stack call readme-lines named-files originals stored stored-changed replay
 .NOTPARALLEL:
 
 help:
@@ -81,7 +81,8 @@ help:
 	@echo 'make test                  format check, then rt ci: the gate'
 	@echo 'make broodline             the program with an exit status, as target/broodline'
 	@echo 'make staticlib             the static library for C and Rust'
-	@echo 'make compare DOCS=FOLDER   the library and broodline against the original Rust, at random'
+	@echo 'make compare DOCS=FOLDER   every entry and broodline against the original Rust, at random; ends'
+	@echo '                           with a table of counts and differences, a row an entry'
 	@echo 'make replay                a C program that makes every stored call and holds the library to its answer'
 	@echo 'make stored DOCS=FOLDER    asks the original Rust anew and writes the stored calls (docs/STORED.md)'
 	@echo 'make stored-changed DOCS=FOLDER   whether the stored calls tell wrong originals from the right ones'
@@ -92,6 +93,7 @@ help:
 	@echo '                           coding, macroblock, picture, clip, play or broodline. It builds that'
 	@echo '                           crate, what it depends on and its entries, and proves what is unproved'
 	@echo 'make machine-code          whether the search sums by the instruction made for it'
+	@echo 'make stack                 whether a call takes no more stack than include/hencouch.h says'
 	@echo 'make sample                makes the clip of make run anew'
 	@echo 'make call                  a C program and a Rust one that call the library and hold it to answers'
 	@echo '                           they name; README.md shows their lines, and is held to them'
@@ -100,8 +102,9 @@ help:
 	@echo '                           FOLDER (/usr/local); DESTDIR goes before it'
 	@echo 'make install-check         a C program and a Rust one built by pkg-config over an install in target/'
 	@echo 'make named-files           whether the files of crates that README.md and docs/ name are there'
-	@echo 'FOLDER has the originals as src/src/half_sample.rs and so on. ARGS="--seed N --valid N'
-	@echo '--refused N" gives compare another seed and other counts.'
+	@echo 'DOCS=FOLDER: FOLDER has the originals as src/src/half_sample.rs and so on, or is a checkout of'
+	@echo 'OxideAV/oxideav-mpeg4video, which has src/half_sample.rs. ARGS="--seed N --valid N --refused N"'
+	@echo 'gives compare another seed and other counts; ARGS=--help says more.'
 
 # The program as it was proved, where it was; else as rt try compiles it, three ways, which proves
 # nothing but compares what each writes with what is stored. (rt try's interpreter, its fourth way,
@@ -205,6 +208,17 @@ only:
 # small change of the source can undo.
 machine-code: $(LIBRARY)
 	@objdump -d $(LIBRARY) | $(COUNT_PSADBW)
+
+# How much stack a call takes: measured on a painted one, and by the machine code. Either fails where
+# it is more than the header says. memset and memcpy are bound at the start, since binding them within
+# a call would take stack too.
+STACK_KIB = $(shell sed -n 's/.*at most \([0-9]*\) KiB of stack.*/\1/p' $(HEADER))
+stack: $(LIBRARY)
+	mkdir -p target/call
+	test -n "$(STACK_KIB)"
+	$(CC) -std=c99 -Wall -Wextra -O2 -Iinclude -Wl,-z,now -o target/call/stack oracle/stack.c $(LIBRARY)
+	target/call/stack $(STACK_KIB)
+	@objdump -dr --no-show-raw-insn $(LIBRARY) | awk -v most=$(STACK_KIB) -f oracle/stack.awk
 
 # A C program and a Rust one that call the library and fail where an answer is not the one they name.
 call: readme-lines $(LIBRARY)
