@@ -3,7 +3,7 @@
 # The originals: a folder that has src/src/half_sample.rs and the others, or a checkout of the
 # repository that they are from, which has src/half_sample.rs.
 DOCS ?=
-# Words for compare: --seed N --valid N --refused N, or --help.
+# Words for compare: --seed N --valid N --refused N, or --help; for bench --help alone.
 ARGS :=
 # The crate whose rows bench times, and no others; empty: all rows.
 ONLY :=
@@ -164,7 +164,7 @@ originals:
 compare: originals $(LIBRARY) $(BROODLINE)
 	$(call crate,target/oracle,$(LIBDIR))
 	$(RUST) --extern hencouch=target/oracle/libhencouch.rlib -o target/oracle/compare target/oracle/compare.rs
-	target/oracle/compare --broodline $(BROODLINE) --header $(HEADER) $(ARGS)
+	target/oracle/compare --broodline $(BROODLINE) $(ARGS)
 
 # The stored calls, of the originals alone: the library that the program would link is empty.
 CALLS := crates/compare/data/calls
@@ -191,11 +191,11 @@ replay: $(LIBRARY)
 	target/call/replay $(CALLS)
 
 # A row that is below its wanted figure is measured again, up to three times, before it fails.
-bench: $(BENCH_NEEDS) originals
+bench: originals $(BENCH_NEEDS)
 	$(call crate,target/oracle,$(BENCH_LIBDIR))
 	$(RUST) --extern hencouch=target/oracle/libhencouch.rlib --check-cfg 'cfg(timed, values(any()))' \
 	  $(foreach rows,$(TIMED),--cfg 'timed="$(rows)"') -o target/oracle/bench target/oracle/bench.rs
-	target/oracle/bench $(WANTED) $(BROODLINE)
+	target/oracle/bench $(WANTED) $(BROODLINE) $(ARGS)
 
 # A library of the entries that these rows call, in a repository of its own: see only.sh.
 only:

@@ -13,6 +13,7 @@ mod counted;
 mod damage;
 mod events;
 mod guard;
+mod intended;
 mod levels;
 mod luma;
 mod macroblock;
@@ -35,8 +36,7 @@ fn main() {
         return println!("{USAGE}");
     }
     let options = Options::parse(&words).unwrap_or_else(|text| wrong(text));
-    let header = std::fs::read_to_string(&options.header)
-        .unwrap_or_else(|error| wrong(format!("{}: {error}", options.header)));
+    let (header, page) = (text(&options.header), text(&options.page));
     println!("seed {}", options.seed);
     let groups: [fn(&Options) -> Vec<Row>; 11] = [
         sample::compare,
@@ -52,7 +52,12 @@ fn main() {
         clip::compare,
     ];
     let rows: Vec<Row> = groups.iter().flat_map(|compare| compare(&options)).collect();
-    let faults = summary::table(&rows, &header);
+    let intended = intended::check(&page);
+    if let Ok(cases) = intended {
+        println!("intended differences: {cases} smallest inputs as docs/DIFFERENCES.md lists them");
+    }
+    let mut faults = summary::table(&rows, &header);
+    faults.extend(intended.err());
     for fault in &faults {
         println!("{fault}");
     }
@@ -61,6 +66,10 @@ fn main() {
         exit(1);
     }
     println!("compare: no differences");
+}
+
+fn text(path: &str) -> String {
+    std::fs::read_to_string(path).unwrap_or_else(|error| wrong(format!("{path}: {error}")))
 }
 
 fn wrong(text: String) -> ! {

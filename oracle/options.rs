@@ -1,7 +1,7 @@
 //! The command line of `compare`; each word has a default.
 
 pub const USAGE: &str = "\
-compare [--seed N] [--valid N] [--refused N] [--broodline PROGRAM] [--header FILE]
+compare [--seed N] [--valid N] [--refused N] [--broodline PROGRAM] [--header FILE] [--page FILE]
 
 Compares the static library and broodline with the original Rust, call by call, and ends with a
 table of counts and differences, a row an entry. The status is 0 where nothing differs and every
@@ -12,7 +12,8 @@ count is above 0, 1 where not, 2 where a word is wrong.
                        take a tenth, pictures and clips a hundredth
   --refused N          damaged calls of each entry that refuses any (100000)
   --broodline PROGRAM  (target/bin/broodline)
-  --header FILE        whose entries all have to be compared (include/hencouch.h)";
+  --header FILE        whose entries all have to be compared (include/hencouch.h)
+  --page FILE          that lists the intended differences (docs/DIFFERENCES.md)";
 
 pub struct Options {
     pub seed: u64,
@@ -24,6 +25,7 @@ pub struct Options {
     /// The program, whose clips are also cut and damaged.
     pub broodline: String,
     pub header: String,
+    pub page: String,
 }
 
 impl Options {
@@ -34,6 +36,7 @@ impl Options {
             refused: 100_000,
             broodline: "target/bin/broodline".to_string(),
             header: "include/hencouch.h".to_string(),
+            page: "docs/DIFFERENCES.md".to_string(),
         };
         for pair in words.chunks(2) {
             let [name, value] = pair else { return Err(format!("{} needs a value", pair[0])) };
@@ -44,6 +47,7 @@ impl Options {
                 "--refused" => options.refused = number? as usize,
                 "--broodline" => options.broodline = value.clone(),
                 "--header" => options.header = value.clone(),
+                "--page" => options.page = value.clone(),
                 _ => return Err(format!("{name} is none of the words; see compare --help")),
             }
         }
