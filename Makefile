@@ -98,6 +98,7 @@ help:
 	@echo 'make call                  a C program and a Rust one that call the library and hold it to answers'
 	@echo '                           they name; README.md shows their lines, and is held to them'
 	@echo 'make bindings              the tests of the Rust crate in bindings/rust, over the library'
+	@echo 'make lint DOCS=FOLDER      whether rustfmt and clippy have nothing to say of the Rust here'
 	@echo 'make install PREFIX=FOLDER lib/libhencouch.a, include/hencouch.h and lib/pkgconfig/hencouch.pc in'
 	@echo '                           FOLDER (/usr/local); DESTDIR goes before it'
 	@echo 'make install-check         a C program and a Rust one built by pkg-config over an install in target/'
@@ -246,13 +247,26 @@ readme-lines:
 	@sed -n '/^    $$ make run$$/,/^$$/s/^    \([0-9]\)/\1/p' README.md | diff crates/broodline/stdout - || { echo 'README.md has other lines of broodline than crates/broodline/stdout' >&2; exit 1; }
 	@test -s target/call/readme.c -a -s target/call/readme.rs || { echo 'README.md shows no lines of C or Rust' >&2; exit 1; }
 
-.PHONY: bindings install install-check
+.PHONY: bindings lint install install-check
 
 # The crate's tests: its examples in the documentation, its numbers, and the stored calls replayed.
 bindings: $(LIBRARY)
 	cd bindings/rust && HENCOUCH_LIB_DIR=$(abspath $(LIBDIR)) cargo test --offline --target-dir $(CURDIR)/target/bindings
 	cd bindings/rust && HENCOUCH_LIB_DIR=$(abspath $(LIBDIR)) RUSTDOCFLAGS='-D warnings' \
 	  cargo doc --offline --no-deps --target-dir $(CURDIR)/target/bindings
+
+# The Rust of the crate and of oracle/, the stored calls' left out: its form, and no warning of clippy's.
+LINTED = clippy-driver --edition 2021 -D warnings --extern hencouch=target/oracle/libhencouch.rlib \
+  --emit metadata --check-cfg 'cfg(timed, values(any()))' $(foreach rows,$(ROWS) all,--cfg 'timed="$(rows)"')
+lint: originals $(LIBRARY)
+	rustfmt --check --edition 2021 --config-path oracle/rustfmt.toml \
+	  $(shell find oracle -name '*.rs' -not -path '*stored*' -not -name modules.rs)
+	cd bindings/rust && cargo fmt --check
+	$(call crate,target/oracle,$(LIBDIR))
+	$(LINTED) -o target/oracle/compare.rmeta target/oracle/compare.rs
+	$(LINTED) -o target/oracle/bench.rmeta target/oracle/bench.rs
+	cd bindings/rust && HENCOUCH_LIB_DIR=$(abspath $(LIBDIR)) cargo clippy --offline --all-targets \
+	  --target-dir $(CURDIR)/target/bindings -- -D warnings
 
 # Where make install puts the library, the header and what pkg-config says of them.
 PREFIX ?= /usr/local

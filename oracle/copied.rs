@@ -4,14 +4,12 @@
 
 use crate::ask::Reference;
 use crate::counted::{held as marks, strings, Counted, Mark};
-use crate::damage::{self, bad_geometry, beyond_32_bits, last_sample};
+use crate::damage::{self, bad_geometry, beyond_32_bits, last_sample, Store};
 use crate::guard::{held, Lent};
 use crate::half_sample::ReferenceVop;
 use crate::options::Options;
 use crate::random::Random;
-use crate::sample::damage::STORE;
-use crate::sample::plane::{Plane, SHAPES};
-use crate::sample::CALLS_PER_PLANE;
+use crate::sample::plane::{self, SHAPES};
 use crate::summary::Row;
 use crate::tally::Tally;
 use hencouch::raw;
@@ -130,30 +128,23 @@ pub fn compare(options: &Options) -> Vec<Row> {
 
 fn valid_calls(function: Function, options: &Options, row: &mut Row, random: &mut Random) {
     let mut counted = Counted::new(function.name(), all_marks(function));
-    for turn in 0..options.valid.div_ceil(CALLS_PER_PLANE) {
-        let plane = Plane::random(turn, random);
-        let left = options.valid - turn * CALLS_PER_PLANE;
-        for _ in 0..left.min(CALLS_PER_PLANE) {
-            let call = valid(function, plane.reference(), random);
-            row.valid(call.check(0, random.byte()));
-            counted.count(marks_of(&call, plane.shape));
-        }
-        row.unchanged(plane.unchanged());
-    }
+    plane::calls(options.valid, row, random, |plane, row, random| {
+        let call = valid(function, plane.reference(), random);
+        row.valid(call.check(0, random.byte()));
+        counted.count(marks_of(&call, plane.shape));
+    });
     row.covered(counted.finish());
 }
 
 fn damaged_calls(function: Function, options: &Options, row: &mut Row, random: &mut Random) {
-    let mut store = vec![0; STORE];
-    random.fill(&mut store);
-    let before = store.clone();
+    let store = Store::random(random);
     Tally::new(function.name(), function.numbers()).run(row, options.refused, || {
-        let call = damaged(function, &store, random);
+        let call = damaged(function, &store.samples, random);
         let reasons = call.reasons();
         let found = call.check(reasons[0], random.byte());
         (reasons, found)
     });
-    row.unchanged(store == before);
+    row.unchanged(store.unchanged());
 }
 
 fn valid<'a>(function: Function, reference: Reference<'a>, random: &mut Random) -> Call<'a> {

@@ -5,13 +5,13 @@
 
 use crate::ask::{Block, Reference};
 use crate::counted::{held as marks, strings, Counted, Mark};
-use crate::damage;
+use crate::damage::{self, Store};
 use crate::guard::{held, Lent};
 use crate::options::Options;
 use crate::random::Random;
 use crate::sample::call::{Call as Interpolation, Function as Interpolator};
-use crate::sample::plane::{Plane, SHAPES};
-use crate::sample::{damage as spoil, refusal, valid, CALLS_PER_PLANE};
+use crate::sample::plane::{self, Plane, SHAPES};
+use crate::sample::{damage as spoil, refusal, valid};
 use crate::summary::Row;
 use crate::tally::Tally;
 use hencouch::raw;
@@ -166,45 +166,31 @@ pub fn compare(options: &Options) -> Vec<Row> {
 
 fn valid_calls(function: Function, options: &Options, row: &mut Row, random: &mut Random) {
     let mut counted = Counted::new(function.name(), all_marks(function));
-    for turn in 0..options.valid.div_ceil(CALLS_PER_PLANE) {
-        let plane = Plane::random(turn, random);
-        let largest = plane.largest();
-        let left = options.valid - turn * CALLS_PER_PLANE;
-        for _ in 0..left.min(CALLS_PER_PLANE) {
-            let call = valid_call(function, &plane, largest, random);
-            if let Some(wanted) = row.valid(call.check(0, random.byte())) {
-                counted.count(marks_of(&call, plane.shape, &wanted));
-            }
+    plane::calls(options.valid, row, random, |plane, row, random| {
+        let call = valid_call(function, plane, random);
+        if let Some(wanted) = row.valid(call.check(0, random.byte())) {
+            counted.count(marks_of(&call, plane.shape, &wanted));
         }
-        row.unchanged(plane.unchanged());
-    }
+    });
     row.covered(counted.finish());
 }
 
 fn damaged_calls(function: Function, options: &Options, row: &mut Row, random: &mut Random) {
-    let mut store = vec![0; spoil::STORE];
-    random.fill(&mut store);
-    let before = store.clone();
+    let store = Store::random(random);
     // A mode that is neither is not quarter mode, so 2 and 3 exclude each other.
     let tally = Tally::new(function.name(), function.numbers()).without(1);
     tally.run(row, options.refused, || {
-        let call = damaged(function, &store, random);
+        let call = damaged(function, &store.samples, random);
         let reasons = call.reasons();
         let found = call.check(reasons[0], random.byte());
         (reasons, found)
     });
-    row.unchanged(store == before);
+    row.unchanged(store.unchanged());
 }
 
-fn valid_call<'a>(
-    function: Function,
-    plane: &'a Plane,
-    largest: u8,
-    random: &mut Random,
-) -> Call<'a> {
+fn valid_call<'a>(function: Function, plane: &'a Plane, random: &mut Random) -> Call<'a> {
     let interpolator = random.pick(&[Interpolator::Half, Interpolator::Quarter]);
-    let one = |random: &mut Random| valid::call(interpolator, plane, largest, random);
-    let whole = one(random);
+    let whole = valid::call(interpolator, plane, random);
     let spread = random.pick(&[0, 0, 1, 9, 2047]);
     let vectors = std::array::from_fn(|part| {
         let own = if part % 2 == 0 { whole.block.mv_x } else { whole.block.mv_y };

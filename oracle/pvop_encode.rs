@@ -6,7 +6,9 @@
 mod coder;
 mod place;
 
-pub use coder::{blocks_of, prediction_of, rows_of, scan_number, scan_of, view_of, Blocks, Coded, Coder};
+pub use coder::{
+    blocks_of, prediction_of, rows_of, scan_number, scan_of, view_of, Blocks, Coded, Coder,
+};
 pub use place::{luma_view, Part, Place};
 
 use crate::bvop_prediction::BVopSampleMode;

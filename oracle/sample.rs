@@ -10,15 +10,13 @@ pub mod plane;
 pub mod refusal;
 pub mod valid;
 
+use crate::damage::Store;
 use crate::options::Options;
 use crate::random::Random;
 use crate::summary::Row;
 use crate::tally::Tally;
 use call::Function;
 use check::check;
-use plane::Plane;
-
-pub const CALLS_PER_PLANE: usize = 250;
 
 pub fn compare(options: &Options) -> Vec<Row> {
     let rows = [Function::Half, Function::Quarter].map(|function| {
@@ -40,32 +38,24 @@ fn generator(options: &Options, function: Function, part: u64) -> Random {
 fn valid_calls(function: Function, options: &Options, row: &mut Row) {
     let mut random = generator(options, function, 0);
     let mut coverage = coverage::Valid::default();
-    for turn in 0..options.valid.div_ceil(CALLS_PER_PLANE) {
-        let plane = Plane::random(turn, &mut random);
-        let largest = plane.largest();
-        let left = options.valid - turn * CALLS_PER_PLANE;
-        for _ in 0..left.min(CALLS_PER_PLANE) {
-            let call = valid::call(function, &plane, largest, &mut random);
-            row.valid(check(&call, 0, random.byte()));
-            coverage.count(&call, &plane, largest);
-        }
-        row.unchanged(plane.unchanged());
-    }
+    plane::calls(options.valid, row, &mut random, |plane, row, random| {
+        let call = valid::call(function, plane, random);
+        row.valid(check(&call, 0, random.byte()));
+        coverage.count(&call, plane);
+    });
     coverage.print(function);
     row.covered(coverage.complete(function));
 }
 
 fn damaged_calls(function: Function, options: &Options, row: &mut Row) {
     let mut random = generator(options, function, 1);
-    let mut store = vec![0; damage::STORE];
-    random.fill(&mut store);
-    let before = store.clone();
+    let store = Store::random(&mut random);
     let tally = Tally::new(function.name(), refusal::numbers(function));
     tally.run(row, options.refused, || {
-        let call = damage::call(function, &store, &mut random);
+        let call = damage::call(function, &store.samples, &mut random);
         let reasons = refusal::reasons(&call);
         let found = check(&call, reasons[0], random.byte());
         (reasons, found)
     });
-    row.unchanged(store == before);
+    row.unchanged(store.unchanged());
 }

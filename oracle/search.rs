@@ -15,6 +15,7 @@ mod sums;
 pub mod valid;
 mod walk;
 
+use crate::damage::Store;
 use crate::options::Options;
 use crate::random::Random;
 use crate::summary::Row;
@@ -69,16 +70,14 @@ fn valid_calls(function: Function, options: &Options, row: &mut Row) {
 
 fn damaged_calls(function: Function, options: &Options, row: &mut Row) {
     let mut random = generator(options, function, 1);
-    let mut store = vec![0; damage::STORE];
-    random.fill(&mut store);
-    let before = store.clone();
+    let store = Store::random(&mut random);
     // A mode that is neither is not quarter mode, so 2 and 3 exclude each other.
     let tally = Tally::new(function.name(), refusal::numbers(function)).without(1);
     tally.run(row, options.refused, || {
-        let call = damage::call(function, &store, &mut random);
+        let call = damage::call(function, &store.samples, &mut random);
         let reasons = refusal::reasons(&call);
         let found = check(&call, reasons[0], random.byte());
         (reasons, found)
     });
-    row.unchanged(store == before);
+    row.unchanged(store.unchanged());
 }

@@ -7,9 +7,6 @@ use crate::ask::{Block, Reference};
 use crate::damage::{beyond_32_bits, bits, cut, geometry};
 use crate::random::Random;
 
-/// Room for every plane used here, too long ones of a bad geometry included.
-pub const STORE: usize = 1 << 17;
-
 /// The longest output area lent here.
 const LONGEST: usize = 1024;
 

@@ -7,9 +7,6 @@ use crate::ask::{Reference, Search, Source};
 use crate::damage::{bits, choose, cut, fcode, geometry, mode, place, shorten, sides};
 use crate::random::Random;
 
-/// Room for every picture used here, too large ones of bad sides included.
-pub const STORE: usize = 1 << 17;
-
 pub fn call<'a>(function: Function, store: &'a [u8], random: &mut Random) -> Call<'a> {
     let mut call = sound(function, store, random);
     for number in choose(refusal::numbers(function), random) {
