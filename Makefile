@@ -98,6 +98,7 @@ help:
 	@echo 'make call                  a C program and a Rust one that call the library and hold it to answers'
 	@echo '                           they name; README.md shows their lines, and is held to them'
 	@echo 'make bindings              the tests of the Rust crate in bindings/rust, over the library'
+	@echo 'make signatures            whether header, crate, source and library have the same entries'
 	@echo 'make lint DOCS=FOLDER      whether rustfmt and clippy have nothing to say of the Rust here'
 	@echo 'make install PREFIX=FOLDER lib/libhencouch.a, include/hencouch.h and lib/pkgconfig/hencouch.pc in'
 	@echo '                           FOLDER (/usr/local); DESTDIR goes before it'
@@ -247,13 +248,22 @@ readme-lines:
 	@sed -n '/^    $$ make run$$/,/^$$/s/^    \([0-9]\)/\1/p' README.md | diff crates/broodline/stdout - || { echo 'README.md has other lines of broodline than crates/broodline/stdout' >&2; exit 1; }
 	@test -s target/call/readme.c -a -s target/call/readme.rs || { echo 'README.md shows no lines of C or Rust' >&2; exit 1; }
 
-.PHONY: bindings lint install install-check
+.PHONY: bindings signatures lint install install-check
 
 # The crate's tests: its examples in the documentation, its numbers, and the stored calls replayed.
 bindings: $(LIBRARY)
 	cd bindings/rust && HENCOUCH_LIB_DIR=$(abspath $(LIBDIR)) cargo test --offline --target-dir $(CURDIR)/target/bindings
 	cd bindings/rust && HENCOUCH_LIB_DIR=$(abspath $(LIBDIR)) RUSTDOCFLAGS='-D warnings' \
 	  cargo doc --offline --no-deps --target-dir $(CURDIR)/target/bindings
+
+# The header, the crate's raw module and the library's source have the same entries, with the same
+# arguments; and the library as it was built has these and no others. make bindings has the first too.
+signatures: $(LIBRARY)
+	cd bindings/rust && HENCOUCH_LIB_DIR=$(abspath $(LIBDIR)) cargo test --offline --quiet --test declared \
+	  --target-dir $(CURDIR)/target/bindings
+	mkdir -p target/call
+	sed -n 's/^uint8_t \(hencouch_[a-z0-9_]*\)(.*/\1/p' $(HEADER) | sort > target/call/declared
+	nm -g --defined-only $(LIBRARY) | sed -n 's/.* T \(hencouch_.*\)/\1/p' | sort | diff target/call/declared -
 
 # The Rust of the crate and of oracle/, the stored calls' left out: its form, and no warning of clippy's.
 LINTED = clippy-driver --edition 2021 -D warnings --extern hencouch=target/oracle/libhencouch.rlib \
