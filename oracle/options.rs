@@ -9,7 +9,7 @@ count is above 0, 1 where not, 2 where a word is wrong.
 
   --seed N             of the random calls (144962)
   --valid N            valid calls of each entry (250000); the searches and the coding of a macroblock
-                       take a tenth, pictures and clips a hundredth
+                       take a tenth; a picture is run for every 60 of them, a clip for every 100
   --refused N          damaged calls of each entry that refuses any (100000)
   --broodline PROGRAM  (target/bin/broodline)
   --header FILE        whose entries all have to be compared (include/hencouch.h)
@@ -17,8 +17,7 @@ count is above 0, 1 where not, 2 where a word is wrong.
 
 pub struct Options {
     pub seed: u64,
-    /// Valid calls for each entry; the searches and the coding of a macroblock take a tenth, and
-    /// pictures and clips a hundredth.
+    /// Valid calls for each entry, of which each group takes its share.
     pub valid: usize,
     /// Damaged calls for each entry.
     pub refused: usize,
