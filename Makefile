@@ -1,8 +1,9 @@
 # `make` lists the targets.
 
-# The folder that has src/src/half_sample.rs and the other originals.
+# The originals: a folder that has src/src/half_sample.rs and the others, or a checkout of the
+# repository that they are from, which has src/half_sample.rs.
 DOCS ?=
-# Words for compare: --seed N --valid N --refused N.
+# Words for compare: --seed N --valid N --refused N, or --help; for bench --help alone.
 ARGS :=
 # The crate whose rows bench times, and no others; empty: all rows.
 ONLY :=
@@ -12,16 +13,18 @@ WANTED := oracle/wanted.txt
 LIBDIR := target/staticlib
 
 LIBRARY := $(LIBDIR)/libhencouch.a
+HEADER := include/hencouch.h
 BROODLINE := target/bin/broodline
 SOURCES := $(wildcard crates.txt) $(shell find crates -path '*/src/*' -name '*.rt' 2>/dev/null)
 ORIGINALS := half_sample.rs quarter_sample.rs fdct.rs inverse_quant.rs quantise.rs scan.rs
 # Parts of files that as a whole want others that are not to be had.
 CUT_FILES := ivop_encode pvop_encode reconstruct
-CUT_ivop_encode := scan_positions forward_scan qfs_to_events FrameView impl:FrameView field_dct_luma
+CUT_ivop_encode := scan_positions forward_scan qfs_to_events FrameView impl:FrameView field_dct_luma \
+  EncoderConfig::forced_scan
 CUT_pvop_encode := SEARCH_RANGE mv_range search_window_pels sad_full_pel units_per_pel sad_subpel \
   full_pel_window refine_subpel estimate_motion sad_full_pel_block8 sad_subpel_block8 \
   estimate_motion_4mv source_luma_mb intra_activity quantise_inter_block quantise_inter_residual \
-  MacroblockResidual macroblock_residual inter_cbp
+  MacroblockResidual macroblock_residual inter_cbp inter_scan
 CUT_reconstruct := MACROBLOCK_LUMA_SIDE MACROBLOCK_CHROMA_SIDE InterPredictionMacroblock
 # The function that sums a block, and how often psadbw has to be in it: 2 a turn of 8 for 16 rows of
 # 16, and 4 for 8 rows of 8.
@@ -70,7 +73,7 @@ BENCH_LIBDIR := target/only/$(TIMED)/target/staticlib
 BENCH_NEEDS := only $(if $(filter broodline,$(TIMED)),$(BROODLINE))
 endif
 
-.PHONY: run sample broodline help test staticlib compare bench only machine-code call readme-lines named-files originals stored stored-changed replay
+.PHONY: run sample broodline help test staticlib compare bench only machine-code stack call readme-lines named-files originals stored stored-changed replay
 .NOTPARALLEL:
 
 help:
@@ -79,7 +82,8 @@ help:
 	@echo 'make rules                 whether what docs/RULES.md and docs/PROMISES.md name is there, and named'
 	@echo 'make broodline             the program with an exit status, as target/broodline'
 	@echo 'make staticlib             the static library for C and Rust'
-	@echo 'make compare DOCS=FOLDER   the library and broodline against the original Rust, at random'
+	@echo 'make compare DOCS=FOLDER   every entry and broodline against the original Rust, at random; ends'
+	@echo '                           with a table of counts and differences, a row an entry'
 	@echo 'make replay                a C program that makes every stored call and holds the library to its answer'
 	@echo 'make stored DOCS=FOLDER    asks the original Rust anew and writes the stored calls (docs/STORED.md)'
 	@echo 'make stored-changed DOCS=FOLDER   whether the stored calls tell wrong originals from the right ones'
@@ -90,16 +94,20 @@ help:
 	@echo '                           coding, macroblock, picture, clip, play or broodline. It builds that'
 	@echo '                           crate, what it depends on and its entries, and proves what is unproved'
 	@echo 'make machine-code          whether the search sums by the instruction made for it'
+	@echo 'make stack                 whether a call takes no more stack than include/hencouch.h says'
 	@echo 'make sample                makes the clip of make run anew'
 	@echo 'make call                  a C program and a Rust one that call the library and hold it to answers'
 	@echo '                           they name; README.md shows their lines, and is held to them'
 	@echo 'make bindings              the tests of the Rust crate in bindings/rust, over the library'
+	@echo 'make signatures            whether header, crate, source and library have the same entries'
+	@echo 'make lint DOCS=FOLDER      whether rustfmt and clippy have nothing to say of the Rust here'
 	@echo 'make install PREFIX=FOLDER lib/libhencouch.a, include/hencouch.h and lib/pkgconfig/hencouch.pc in'
 	@echo '                           FOLDER (/usr/local); DESTDIR goes before it'
 	@echo 'make install-check         a C program and a Rust one built by pkg-config over an install in target/'
 	@echo 'make named-files           whether the files of crates that README.md and docs/ name are there'
-	@echo 'FOLDER has the originals as src/src/half_sample.rs and so on. ARGS="--seed N --valid N'
-	@echo '--refused N" gives compare another seed and other counts.'
+	@echo 'DOCS=FOLDER: FOLDER has the originals as src/src/half_sample.rs and so on, or is a checkout of'
+	@echo 'OxideAV/oxideav-mpeg4video, which has src/half_sample.rs. ARGS="--seed N --valid N --refused N"'
+	@echo 'gives compare another seed and other counts; ARGS=--help says more.'
 
 # The program as it was proved, where it was; else as rt try compiles it, three ways, which proves
 # nothing but compares what each writes with what is stored. (rt try's interpreter, its fourth way,
@@ -139,32 +147,22 @@ broodline: $(SOURCES)
 	rt staticlib play
 	$(CC) -std=c99 -Wall -Wextra -O2 -o target/broodline oracle/broodline.c $(LIBDIR)/libplay.a
 
-# $(call cut,FILE,NAMES): the parts with these names, unchanged, each of which has to be there once.
-# A function, a struct and an impl block, whose name is impl:TYPE, end with their brace; a constant
-# and a type's other name end with their line.
-define cut
-for name in $(2); do \
-	  sed -n -e "/^[a-z()]* *fn $$name[(<]/,/^}/p" -e "/^[a-z()]* *struct $$name[ <]/,/^}/p" \
-	    -e "/^$${name%%:*}[^ ]* $${name#*:}[ <]/,/^}/p" \
-	    -e "/^[a-z()]* *const $$name:/p" -e "/^[a-z()]* *type $$name /p" \
-	    $(DOCS)/src/src/$(1).rs > target/oracle/part; \
-	  test "$$(grep -c '^}\|^[a-z()]* *const \|^[a-z()]* *type ' target/oracle/part)" = 1 \
-	    || { echo "$$name is not in $(1).rs once" >&2; exit 1; }; \
-	  cat target/oracle/part; \
-	done > target/oracle/$(1)_cut.rs
-
-endef
+# Where the originals are; nothing where they are not.
+DOCS_SRC = $(if $(DOCS),$(patsubst %/half_sample.rs,%,$(firstword \
+  $(wildcard $(DOCS)/src/src/half_sample.rs $(DOCS)/src/half_sample.rs))))
 
 # The originals, unchanged, beside the programs that name them as modules.
 originals:
-	$(if $(DOCS),,$(error DOCS is missing: the folder that has src/src/half_sample.rs))
-	$(foreach file,$(ORIGINALS) $(CUT_FILES:%=%.rs),$(if $(wildcard $(DOCS)/src/src/$(file)),,\
-	  $(error $(DOCS)/src/src/$(file) is missing: DOCS is to be the folder above src/src)))
+	$(if $(DOCS),,$(error DOCS is missing: DOCS=FOLDER, where FOLDER has the original Rust as src/src/half_sample.rs and so on, \
+	  or is a checkout of OxideAV/oxideav-mpeg4video, which has src/half_sample.rs))
+	$(if $(DOCS_SRC),,$(error DOCS=$(DOCS) has neither src/src/half_sample.rs nor src/half_sample.rs))
+	$(foreach file,$(ORIGINALS) $(CUT_FILES:%=%.rs),$(if $(wildcard $(DOCS_SRC)/$(file)),,\
+	  $(error $(DOCS_SRC)/$(file) is missing)))
 	rm -rf target/oracle
 	mkdir -p target/oracle
 	cp -R oracle/. target/oracle
-	cp $(ORIGINALS:%=$(DOCS)/src/src/%) target/oracle
-	$(foreach file,$(CUT_FILES),$(call cut,$(file),$(CUT_$(file))))
+	cp $(ORIGINALS:%=$(DOCS_SRC)/%) target/oracle
+	$(foreach file,$(CUT_FILES),sh oracle/cut.sh $(DOCS_SRC)/$(file).rs $(CUT_$(file)) > target/oracle/$(file)_cut.rs && ) :
 
 compare: originals $(LIBRARY) $(BROODLINE)
 	$(call crate,target/oracle,$(LIBDIR))
@@ -173,7 +171,6 @@ compare: originals $(LIBRARY) $(BROODLINE)
 
 # The stored calls, of the originals alone: the library that the program would link is empty.
 CALLS := crates/compare/data/calls
-HEADER := include/hencouch.h
 STORE := $(RUST) --extern hencouch=libhencouch.rlib -o store stored.rs
 
 stored: originals
@@ -197,11 +194,11 @@ replay: $(LIBRARY)
 	target/call/replay $(CALLS)
 
 # A row that is below its wanted figure is measured again, up to three times, before it fails.
-bench: $(BENCH_NEEDS) originals
+bench: originals $(BENCH_NEEDS)
 	$(call crate,target/oracle,$(BENCH_LIBDIR))
 	$(RUST) --extern hencouch=target/oracle/libhencouch.rlib --check-cfg 'cfg(timed, values(any()))' \
 	  $(foreach rows,$(TIMED),--cfg 'timed="$(rows)"') -o target/oracle/bench target/oracle/bench.rs
-	target/oracle/bench $(WANTED) $(BROODLINE)
+	target/oracle/bench $(WANTED) $(BROODLINE) $(ARGS)
 
 # A library of the entries that these rows call, in a repository of its own: see only.sh.
 only:
@@ -214,6 +211,17 @@ only:
 # small change of the source can undo.
 machine-code: $(LIBRARY)
 	@objdump -d $(LIBRARY) | $(COUNT_PSADBW)
+
+# How much stack a call takes: measured on a painted one, and by the machine code. Either fails where
+# it is more than the header says. memset and memcpy are bound at the start, since binding them within
+# a call would take stack too.
+STACK_KIB = $(shell sed -n 's/.*at most \([0-9]*\) KiB of stack.*/\1/p' $(HEADER))
+stack: $(LIBRARY)
+	mkdir -p target/call
+	test -n "$(STACK_KIB)"
+	$(CC) -std=c99 -Wall -Wextra -O2 -Iinclude -Wl,-z,now -o target/call/stack oracle/stack.c $(LIBRARY)
+	target/call/stack $(STACK_KIB)
+	@objdump -dr --no-show-raw-insn $(LIBRARY) | awk -v most=$(STACK_KIB) -f oracle/stack.awk
 
 # A C program and a Rust one that call the library and fail where an answer is not the one they name.
 call: readme-lines $(LIBRARY)
@@ -241,13 +249,35 @@ readme-lines:
 	@sed -n '/^    $$ make run$$/,/^$$/s/^    \([0-9]\)/\1/p' README.md | diff crates/broodline/stdout - || { echo 'README.md has other lines of broodline than crates/broodline/stdout' >&2; exit 1; }
 	@test -s target/call/readme.c -a -s target/call/readme.rs || { echo 'README.md shows no lines of C or Rust' >&2; exit 1; }
 
-.PHONY: bindings install install-check
+.PHONY: bindings signatures lint install install-check
 
 # The crate's tests: its examples in the documentation, its numbers, and the stored calls replayed.
 bindings: $(LIBRARY)
 	cd bindings/rust && HENCOUCH_LIB_DIR=$(abspath $(LIBDIR)) cargo test --offline --target-dir $(CURDIR)/target/bindings
 	cd bindings/rust && HENCOUCH_LIB_DIR=$(abspath $(LIBDIR)) RUSTDOCFLAGS='-D warnings' \
 	  cargo doc --offline --no-deps --target-dir $(CURDIR)/target/bindings
+
+# The header, the crate's raw module and the library's source have the same entries, with the same
+# arguments; and the library as it was built has these and no others. make bindings has the first too.
+signatures: $(LIBRARY)
+	cd bindings/rust && HENCOUCH_LIB_DIR=$(abspath $(LIBDIR)) cargo test --offline --quiet --test declared \
+	  --target-dir $(CURDIR)/target/bindings
+	mkdir -p target/call
+	sed -n 's/^uint8_t \(hencouch_[a-z0-9_]*\)(.*/\1/p' $(HEADER) | sort > target/call/declared
+	nm -g --defined-only $(LIBRARY) | sed -n 's/.* T \(hencouch_.*\)/\1/p' | sort | diff target/call/declared -
+
+# The Rust of the crate and of oracle/, the stored calls' left out: its form, and no warning of clippy's.
+LINTED = clippy-driver --edition 2021 -D warnings --extern hencouch=target/oracle/libhencouch.rlib \
+  --emit metadata --check-cfg 'cfg(timed, values(any()))' $(foreach rows,$(ROWS) all,--cfg 'timed="$(rows)"')
+lint: originals $(LIBRARY)
+	rustfmt --check --edition 2021 --config-path oracle/rustfmt.toml \
+	  $(shell find oracle -name '*.rs' -not -path '*stored*' -not -name modules.rs)
+	cd bindings/rust && cargo fmt --check
+	$(call crate,target/oracle,$(LIBDIR))
+	$(LINTED) -o target/oracle/compare.rmeta target/oracle/compare.rs
+	$(LINTED) -o target/oracle/bench.rmeta target/oracle/bench.rs
+	cd bindings/rust && HENCOUCH_LIB_DIR=$(abspath $(LIBDIR)) cargo clippy --offline --all-targets \
+	  --target-dir $(CURDIR)/target/bindings -- -D warnings
 
 # Where make install puts the library, the header and what pkg-config says of them.
 PREFIX ?= /usr/local

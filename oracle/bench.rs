@@ -26,18 +26,29 @@ mod transform_bench;
 #[allow(dead_code)]
 mod wanted;
 
+use std::process::exit;
 use wanted::Wanted;
+
+const USAGE: &str = "\
+bench WANTED BROODLINE
+
+Times the static library and broodline against the original Rust in one run, and ends with a table of
+all rows. WANTED is the file of wanted figures (oracle/wanted.txt), BROODLINE the program's path.
+ratio: how many times as fast as the Rust. The status is 0 where every row is as wanted, 1 where one
+is below, 2 where a word is wrong.";
 
 fn main() {
     let words: Vec<String> = std::env::args().skip(1).collect();
+    if words.iter().any(|word| word == "--help" || word == "-h") {
+        return println!("{USAGE}");
+    }
     let (figures, _broodline) = match &words[..] {
         #[cfg(timed = "broodline")]
         [word, clip] if word == clip_bench::CODING => return clip_bench::code_once(clip),
         [figures, path] => (figures, path),
-        _ => panic!("bench wants the file of wanted figures and the path of broodline"),
+        _ => wrong("the words are WANTED BROODLINE; see bench --help".to_string()),
     };
-    let mut wanted = Wanted::read(figures).unwrap_or_else(|text| panic!("{text}"));
-    println!("ratio: how many times as fast as the Rust");
+    let mut wanted = Wanted::read(figures).unwrap_or_else(|text| wrong(text));
     #[cfg(timed = "half_sample")]
     sample_bench::bench::<sample_bench::Half>(&mut wanted);
     #[cfg(timed = "quarter_sample")]
@@ -62,13 +73,19 @@ fn main() {
     report(&wanted);
 }
 
-/// Ends with status 1 where a row missed what is wanted of it.
+/// Prints the table; ends with status 1 where a row missed what is wanted of it.
 fn report(wanted: &Wanted) {
-    for fault in wanted.faults() {
-        eprintln!("missed: {fault}");
+    wanted.print();
+    match wanted.missed() {
+        0 => println!("bench: every row is as wanted"),
+        missed => {
+            println!("bench: failed, {missed} missed");
+            exit(1)
+        }
     }
-    if !wanted.faults().is_empty() {
-        std::process::exit(1);
-    }
-    println!("every row is as wanted");
+}
+
+fn wrong(text: String) -> ! {
+    eprintln!("bench: {text}");
+    exit(2)
 }

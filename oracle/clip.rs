@@ -13,7 +13,7 @@ use crate::broodline::{Header, Program, HEADER, NUMBERS};
 use crate::counted::Counted;
 use crate::options::Options;
 use crate::random::Random;
-use crate::summary::Summary;
+use crate::summary::Row;
 use crate::tally::Tally;
 use check::Checker;
 use moving::Moving;
@@ -30,8 +30,16 @@ const LEFT_OVER: usize = 4;
 /// From so many clips on everything that is counted has to be covered.
 const ENOUGH: usize = 2_000;
 
-pub fn compare(options: &Options) -> Result<Summary, String> {
-    let mut checker = Checker::new(Program::at(&options.broodline)?, options.seed);
+pub fn compare(options: &Options) -> Vec<Row> {
+    let mut row = Row::new(NAME);
+    match Program::at(&options.broodline) {
+        Ok(program) => clips(Checker::new(program, options.seed), options, &mut row),
+        Err(text) => row.covered(Err(text)),
+    }
+    vec![row]
+}
+
+fn clips(mut checker: Checker, options: &Options, row: &mut Row) {
     let mut random = Random::new(options.seed.wrapping_add(0x400 << 48));
     let mut counted = Counted::new(NAME, marks::all()).naming("clips equal", ENOUGH);
     // Damaged headers that are whole: every reason alone, and before each later one.
@@ -39,17 +47,21 @@ pub fn compare(options: &Options) -> Result<Summary, String> {
     for turn in 0..options.valid / SHARE {
         let clip = Moving::random(turn, &mut random);
         checker.clip = turn;
-        let text = checker.check("whole", &clip.bytes, &mut counted, &mut random)?;
-        counted.count(marks::of(&clip, &text));
+        let mut check = |kind, input: &[u8], counted: &mut Counted, random: &mut Random| {
+            checker.check(kind, input, counted, random, row)
+        };
+        if let Some(text) = check("whole", &clip.bytes, &mut counted, &mut random) {
+            counted.count(marks::of(&clip, &text));
+        }
         if turn % LEFT_OVER == 0 {
             let input = damage::left_over(&clip.bytes, &mut random);
-            checker.check("left over", &input, &mut counted, &mut random)?;
+            check("left over", &input, &mut counted, &mut random);
         }
         let at = cut::random(turn, &clip.header, &mut random);
         counted.add(marks::CUTS, cut::name(&clip.header, at));
-        checker.check("cut", &clip.bytes[..at], &mut counted, &mut random)?;
+        check("cut", &clip.bytes[..at], &mut counted, &mut random);
         let (kind, input) = damage::random(turn, &clip, &mut random);
-        checker.check(kind, &input, &mut counted, &mut random)?;
+        check(kind, &input, &mut counted, &mut random);
         if let Some(bytes) = input.first_chunk::<HEADER>() {
             let reasons = Header::read(*bytes).reasons();
             if !reasons.is_empty() {
@@ -57,7 +69,6 @@ pub fn compare(options: &Options) -> Result<Summary, String> {
             }
         }
     }
-    tally.finish()?;
-    let equal = vec![(NAME, counted.finish()?)];
-    Ok(Summary { equal, refusals: checker.refusals })
+    row.covered(tally.finish());
+    row.covered(counted.finish());
 }

@@ -54,7 +54,7 @@ pub fn bench(path: &str, wanted: &mut Wanted) {
         .into_iter()
         .map(|(vectors, mode, fcode)| Work::new(vectors, mode, fcode, &still, &program))
         .collect();
-    let mut table = Table::new("broodline, a picture", ("us", 1e3));
+    let mut table = Table::new("broodline, a picture");
     works.iter().for_each(|work| table.row(format!("picture {}", work.line.setting()), &[]));
     table.run(wanted, PASSES, |at, _| {
         works[at].time(&program);

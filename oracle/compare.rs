@@ -1,40 +1,48 @@
 //! Compares the static library and the program with the Rust that they were ported from, on random
-//! valid and damaged calls and inputs. The originals, as `half_sample` and `fdct`, are unchanged; they are laid beside this file
-//! before it is compiled.
+//! valid and damaged calls and inputs. The originals, as `half_sample` and `fdct`, are unchanged;
+//! they are laid beside this file before it is compiled.
 //!
-//! A function group is one module with `compare(&Options) -> Result<Summary, String>`; the error
-//! text is the first call that differs, with its whole input.
+//! A group of entries is one module with `compare(&Options) -> Vec<Row>`, a row an entry. All rows
+//! are one table at the end; `options` says what the program is told and when it fails.
 
 include!("modules.rs");
 
 mod clip;
+mod copied;
 mod counted;
 mod damage;
 mod events;
 mod guard;
+mod intended;
 mod levels;
+mod luma;
 mod macroblock;
 mod options;
 mod run;
 mod sample;
 mod search;
+mod single;
 mod summary;
 mod tally;
 mod transform;
 
-use options::Options;
+use options::{Options, USAGE};
 use std::process::exit;
+use summary::Row;
 
 fn main() {
     let words: Vec<String> = std::env::args().skip(1).collect();
-    let options = Options::parse(&words).unwrap_or_else(|text| {
-        eprintln!("compare: {text}");
-        exit(2)
-    });
+    if words.iter().any(|word| word == "--help" || word == "-h") {
+        return println!("{USAGE}");
+    }
+    let options = Options::parse(&words).unwrap_or_else(|text| wrong(text));
+    let (header, page) = (text(&options.header), text(&options.page));
     println!("seed {}", options.seed);
-    let mut groups = Vec::new();
-    let all = [
+    let groups: [fn(&Options) -> Vec<Row>; 11] = [
         sample::compare,
+        single::compare,
+        copied::compare,
+        luma::compare,
         transform::compare,
         levels::compare,
         events::compare,
@@ -43,14 +51,28 @@ fn main() {
         run::compare,
         clip::compare,
     ];
-    for compare in all {
-        match compare(&options) {
-            Ok(summary) => groups.push(summary),
-            Err(text) => {
-                println!("{text}");
-                exit(1)
-            }
-        }
+    let rows: Vec<Row> = groups.iter().flat_map(|compare| compare(&options)).collect();
+    let intended = intended::check(&page);
+    if let Ok(cases) = intended {
+        println!("intended differences: {cases} smallest inputs as docs/DIFFERENCES.md lists them");
     }
-    println!("{}", summary::last_line(&groups));
+    let mut faults = summary::table(&rows, &header);
+    faults.extend(intended.err());
+    for fault in &faults {
+        println!("{fault}");
+    }
+    if !faults.is_empty() {
+        println!("compare: failed");
+        exit(1);
+    }
+    println!("compare: no differences");
+}
+
+fn text(path: &str) -> String {
+    std::fs::read_to_string(path).unwrap_or_else(|error| wrong(format!("{path}: {error}")))
+}
+
+fn wrong(text: String) -> ! {
+    eprintln!("compare: {text}");
+    exit(2)
 }

@@ -1,6 +1,8 @@
 //! `cos_table`, which the original transform calls and which is in none of the original files.
-//! Document 01's rule is its meaning: the entry for u, x by m = (2x + 1)u mod 32, from C[0..8].
+//! The rule is its meaning: the entry for u, x by m = (2x + 1)u mod 32, from C[0..8].
 
+// With the rule's digits; each is the double nearest.
+#[allow(clippy::approx_constant, clippy::excessive_precision)]
 const C: [f64; 9] = [
     1.0,
     0.98078528040323044913,

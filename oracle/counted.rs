@@ -51,8 +51,8 @@ impl Counted {
         self.lines[title][name]
     }
 
-    /// Prints the counts; an error if a long run left something out. The count of calls.
-    pub fn finish(self) -> Result<usize, String> {
+    /// Prints the counts; an error if a long run left something out.
+    pub fn finish(self) -> Result<(), String> {
         let name = self.name;
         println!("{name}: {} {}", self.calls, self.are);
         let mut missing = Vec::new();
@@ -65,7 +65,7 @@ impl Counted {
         if self.calls >= self.enough && !missing.is_empty() {
             return Err(format!("{name}: the valid calls left out {}", missing.join(", ")));
         }
-        Ok(self.calls)
+        Ok(())
     }
 }
 

@@ -4,6 +4,57 @@
 
 use crate::ask::{Reference, Source};
 use crate::random::Random;
+use std::fmt::Display;
+
+/// Samples that damaged calls are lent parts of, which none may change. There is room for every
+/// picture used here, too large ones of bad sides included.
+pub struct Store {
+    pub samples: Vec<u8>,
+    before: Vec<u8>,
+}
+
+impl Store {
+    pub fn random(random: &mut Random) -> Self {
+        let mut samples = vec![0; 1 << 17];
+        random.fill(&mut samples);
+        Store { before: samples.clone(), samples }
+    }
+
+    pub fn unchanged(&self) -> bool {
+        self.samples == self.before
+    }
+}
+
+/// What is to be wrong with a call: one of the numbers alone, or several at once, so that the order
+/// in which they are looked at shows. A mode that is neither is not quarter mode, so of 2 and 3 only
+/// one can be.
+pub fn choose(numbers: &[u8], random: &mut Random) -> Vec<u8> {
+    let always = random.pick(numbers);
+    let other = if always == 3 || (always != 2 && random.chance(50)) { 2 } else { 3 };
+    let share = random.pick(&[0, 10, 40]);
+    let mut chosen = numbers.to_vec();
+    chosen.retain(|&n| n == always || (n != other && random.chance(share)));
+    chosen
+}
+
+/// Calls made by hand, each with its name and the reply. The replies are held to the reasons that
+/// are worked out, and the library to both. The count of calls.
+pub fn by_hand<C: Display>(
+    cases: impl Iterator<Item = (&'static str, u8, C)>,
+    reasons: impl Fn(&C) -> Vec<u8>,
+    check: impl Fn(&C, u8) -> Result<(), String>,
+) -> Result<usize, String> {
+    let mut count = 0;
+    for (name, reply, call) in cases {
+        let first = reasons(&call).first().copied().unwrap_or(0);
+        if first != reply {
+            return Err(format!("{name}: listed as {reply}, worked out as {first}\n{call}"));
+        }
+        check(&call, reply).map_err(|text| format!("{name}\n{text}"))?;
+        count += 1;
+    }
+    Ok(count)
+}
 
 pub fn bad_geometry(r: &Reference) -> bool {
     let side = 1..=4096;

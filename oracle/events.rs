@@ -1,21 +1,20 @@
 //! Scans and events: `forward_scan`, `inverse_scan` and `levels_to_events`, against the originals
 //! `forward_scan`, `inverse_scan` and `qfs_to_events`.
 
+use crate::ask::Areas;
 use crate::damage;
 use crate::guard::{held, Lent};
 use crate::ivop_encode;
+use crate::macroblock::lent::{EventsLent, Laid};
 use crate::options::Options;
 use crate::random::Random;
 use crate::scan::{self, ScanType};
-use crate::summary::Summary;
+use crate::summary::Row;
 use crate::tally::Tally;
 use hencouch::raw;
 
 const SCANS: [ScanType; 3] =
     [ScanType::AlternateHorizontal, ScanType::AlternateVertical, ScanType::Zigzag];
-
-/// At least this many blocks, whatever the options say.
-const BLOCKS: usize = 200_000;
 
 #[derive(Clone, Copy, Debug, PartialEq)]
 enum Function {
@@ -63,24 +62,25 @@ impl Call {
         all.iter().filter(|reason| reason.1).map(|reason| reason.0).collect()
     }
 
-    fn check(&self, random: &mut Random) -> Result<Vec<u8>, String> {
-        let reasons = self.reasons();
-        let reply = reasons.first().copied().unwrap_or(0);
-        let mut lent = Lent::<i32>::new(self.out_len, random.byte());
+    fn check(&self, random: &mut Random) -> Result<(), String> {
+        let reply = self.reasons().first().copied().unwrap_or(0);
+        let handed = self.clone();
         let found = match self.function {
-            Function::Events => self.check_events(reply, &mut lent, random),
-            _ => self.check_scan(reply, &mut lent),
+            Function::Events => handed.check_events(reply, random),
+            _ => handed.check_scan(reply, random.byte()),
         };
-        found.map_err(|text| format!("MISMATCH: {text}\n{self:?}"))?;
-        Ok(reasons)
+        let same = handed.levels == self.levels;
+        let same = same.then_some(()).ok_or("the levels were changed".to_string());
+        found.and(same).map_err(|text| format!("MISMATCH: {text}\n{self:?}"))
     }
 
-    fn check_scan(&self, reply: u8, lent: &mut Lent<i32>) -> Result<(), String> {
+    fn check_scan(&self, reply: u8, salt: u8) -> Result<(), String> {
+        let mut lent = Lent::<i32>::new(self.out_len, salt);
         let forward = self.function == Function::Forward;
         let ask = if forward { raw::forward_scan } else { raw::inverse_scan };
         let got = ask(&self.levels, self.scan, lent.area());
         let wanted = if reply == 0 { self.original_scan() } else { Vec::new() };
-        held(lent, got, reply, &wanted)
+        held(&lent, got, reply, &wanted)
     }
 
     fn original_scan(&self) -> Vec<i32> {
@@ -93,70 +93,36 @@ impl Call {
         scan::inverse_scan(levels, scan).concat()
     }
 
-    fn check_events(
-        &self,
-        reply: u8,
-        lent: &mut Lent<i32>,
-        random: &mut Random,
-    ) -> Result<(), String> {
-        let mut lasts = Lent::<u8>::new(self.lasts_len, random.byte());
-        let mut runs = Lent::<u8>::new(self.runs_len, random.byte());
-        let before = random.byte();
-        let mut count = before;
-        let (marks, zeros) = (lasts.area(), runs.area());
-        let got = raw::levels_to_events(&self.levels, marks, zeros, lent.area(), &mut count);
-        if reply != 0 {
-            if !lasts.untouched() || !runs.untouched() || count != before {
-                return Err("refused, and marks, runs or the count were written".to_string());
-            }
-            return held(lent, got, reply, &[]);
-        }
-        let wanted = self.original_events();
-        held(lent, got, reply, &wanted.levels)?;
-        if !lasts.guards_hold() || !runs.guards_hold() {
-            return Err("bytes were written outside an area".to_string());
-        }
-        let same = count == wanted.count
-            && lasts.contents() == &wanted.lasts[..]
-            && runs.contents() == &wanted.runs[..];
-        same.then_some(()).ok_or_else(|| format!("marks, runs or the count {count} differ"))
+    fn check_events(&self, reply: u8, random: &mut Random) -> Result<(), String> {
+        let lens = [self.lasts_len, self.runs_len, self.out_len];
+        let mut lent = EventsLent::new(lens, 1, random);
+        let (Areas { lasts, runs, levels }, counts) = lent.areas();
+        let got = raw::levels_to_events(&self.levels, lasts, runs, levels, &mut counts[0]);
+        let wanted = if reply == 0 { self.original_events() } else { Laid::default() };
+        lent.held(got, reply, &wanted)
     }
 
-    fn original_events(&self) -> Wanted {
+    fn original_events(&self) -> Laid {
         let levels: &[i32; 64] = self.levels.as_slice().try_into().expect("64 levels");
-        let events = ivop_encode::qfs_to_events(levels, 0);
-        let count = events.len() as u8;
-        let mut wanted = Wanted { count, lasts: [0; 64], runs: [0; 64], levels: [0; 64] };
-        for (i, event) in events.iter().enumerate() {
-            wanted.lasts[i] = event.last as u8;
-            wanted.runs[i] = event.run as u8;
-            wanted.levels[i] = event.level;
-        }
-        wanted
+        Laid::out(&[ivop_encode::qfs_to_events(levels, 0)])
     }
 }
 
-/// The original's events, laid out as three areas.
-struct Wanted {
-    count: u8,
-    lasts: [u8; 64],
-    runs: [u8; 64],
-    levels: [i32; 64],
-}
-
-pub fn compare(options: &Options) -> Result<Summary, String> {
-    let mut equal = Vec::new();
-    let mut refusals = 0;
-    for function in [Function::Forward, Function::Inverse, Function::Events] {
+pub fn compare(options: &Options) -> Vec<Row> {
+    let rows = [Function::Forward, Function::Inverse, Function::Events].map(|function| {
+        let mut row = Row::new(function.name());
         let mut random = Random::new(options.seed.wrapping_add(0x20 + function as u64));
-        let calls = options.valid.max(BLOCKS);
-        for turn in 0..calls {
-            valid(function, turn, &mut random).check(&mut random)?;
+        for turn in 0..options.valid {
+            row.valid(valid(function, turn, &mut random).check(&mut random));
         }
-        equal.push((function.name(), calls));
-        refusals += damaged_calls(function, options.refused, &mut random)?;
-    }
-    Ok(Summary { equal, refusals })
+        let tally = Tally::new(function.name(), function.numbers());
+        tally.run(&mut row, options.refused, || {
+            let call = damaged(function, &mut random);
+            (call.reasons(), call.check(&mut random))
+        });
+        row
+    });
+    rows.into()
 }
 
 /// A call with nothing wrong. Every seventh block is empty, full, or has one level, first, last or
@@ -185,23 +151,12 @@ fn valid(function: Function, turn: usize, random: &mut Random) -> Call {
     Call { function, levels, scan, out_len: 64, lasts_len: 64, runs_len: 64 }
 }
 
-/// One thing wrong, or several at once, so that the order of the numbers shows.
-fn damaged_calls(function: Function, calls: usize, random: &mut Random) -> Result<usize, String> {
-    let numbers = function.numbers();
-    let mut tally = Tally::new(function.name(), numbers);
-    for turn in 0..calls {
-        let mut call = valid(function, turn, random);
-        let always = random.pick(numbers);
-        let alone = random.chance(40);
-        for &number in numbers {
-            if number == always || (!alone && random.chance(40)) {
-                spoil(&mut call, number, random);
-            }
-        }
-        let reasons = call.check(random)?;
-        tally.count(&reasons);
+fn damaged(function: Function, random: &mut Random) -> Call {
+    let mut call = valid(function, random.size(0, 41), random);
+    for number in damage::choose(function.numbers(), random) {
+        spoil(&mut call, number, random);
     }
-    tally.finish()
+    call
 }
 
 fn spoil(call: &mut Call, number: u8, random: &mut Random) {

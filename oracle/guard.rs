@@ -33,6 +33,13 @@ impl Pattern for u32 {
     }
 }
 
+impl Pattern for u64 {
+    /// Far from every side, count and total of a picture.
+    fn at(index: usize, salt: u8) -> u64 {
+        0x8000_0000_0000_0000 | (index as u64) << 8 | u64::from(salt)
+    }
+}
+
 pub struct Lent<T> {
     entries: Vec<T>,
     salt: u8,
@@ -43,6 +50,13 @@ impl<T: Pattern> Lent<T> {
     pub fn new(len: usize, salt: u8) -> Self {
         let entries = (0..len + 2 * GUARD).map(|i| T::at(i, salt)).collect();
         Lent { entries, salt }
+    }
+
+    /// An area that holds these entries.
+    pub fn holding(entries: &[T], salt: u8) -> Self {
+        let mut lent = Lent::new(entries.len(), salt);
+        lent.area().copy_from_slice(entries);
+        lent
     }
 
     /// What is lent.

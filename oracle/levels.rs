@@ -8,7 +8,7 @@ use crate::inverse_quant::{inverse_quant_method2_coef, saturate_fprime};
 use crate::options::Options;
 use crate::quantise::{quantise_method1_inter, quantise_method2_inter};
 use crate::random::Random;
-use crate::summary::Summary;
+use crate::summary::Row;
 use crate::tally::Tally;
 use hencouch::raw;
 
@@ -62,32 +62,48 @@ impl Call {
         self.input.iter().enumerate().map(one).collect()
     }
 
-    fn check(&self, salt: u8) -> Result<Vec<u8>, String> {
-        let reasons = self.reasons();
-        let reply = reasons.first().copied().unwrap_or(0);
+    /// What a call lent for reading is as it was.
+    fn unchanged_from(&self, before: &Call) -> Result<(), String> {
+        let same = self.input == before.input && self.weights == before.weights;
+        same.then_some(()).ok_or("what was lent for reading was changed".to_string())
+    }
+
+    fn check(&self, salt: u8) -> Result<(), String> {
+        let reply = self.reasons().first().copied().unwrap_or(0);
         let mut lent = Lent::<i32>::new(self.out_len, salt);
-        let got = self.ask_library(lent.area());
+        let handed = self.clone();
+        let got = handed.ask_library(lent.area());
         let wanted = if reply == 0 { self.ask_original() } else { Vec::new() };
-        held(&lent, got, reply, &wanted).map_err(|text| format!("MISMATCH: {text}\n{self:?}"))?;
-        Ok(reasons)
+        let found = held(&lent, got, reply, &wanted).and(handed.unchanged_from(self));
+        found.map_err(|text| format!("MISMATCH: {text}\n{self:?}"))
     }
 }
 
-pub fn compare(options: &Options) -> Result<Summary, String> {
-    let mut equal = Vec::new();
-    let mut refusals = 0;
-    for inverse in [false, true] {
-        let name = if inverse { "inverse_block" } else { "quantise_block" };
+pub fn compare(options: &Options) -> Vec<Row> {
+    let rows = [(false, "quantise_block"), (true, "inverse_block")].map(|(inverse, name)| {
+        let mut row = Row::new(name);
         let mut random = Random::new(options.seed.wrapping_add(0x10 + inverse as u64));
-        let values = every_value(inverse, &mut random)?;
-        println!("{name}: {values} values equal: every coefficient or level, every quantiser");
-        for _ in 0..options.valid {
-            valid(inverse, &mut random).check(random.byte())?;
+        if let Some(values) = row.same(every_value(inverse, &mut random)) {
+            println!("{name}: {values} values equal: every coefficient or level, every quantiser");
         }
-        equal.push((name, options.valid));
-        refusals += damaged_calls(name, inverse, options.refused, &mut random)?;
+        for _ in 0..options.valid {
+            row.valid(valid(inverse, &mut random).check(random.byte()));
+        }
+        Tally::new(name, numbers(inverse)).run(&mut row, options.refused, || {
+            let call = damaged(inverse, &mut random);
+            (call.reasons(), call.check(random.byte()))
+        });
+        row
+    });
+    rows.into()
+}
+
+fn numbers(inverse: bool) -> &'static [u8] {
+    if inverse {
+        &[10, 12, 13]
+    } else {
+        &[10, 11, 12, 13]
     }
-    Ok(Summary { equal, refusals })
 }
 
 /// Every value of the range with every quantiser: by the second method or the inverse, and by the
@@ -134,28 +150,12 @@ fn valid(inverse: bool, random: &mut Random) -> Call {
     }
 }
 
-/// One thing wrong, or several at once, so that the order of the numbers shows.
-fn damaged_calls(
-    name: &'static str,
-    inverse: bool,
-    calls: usize,
-    random: &mut Random,
-) -> Result<usize, String> {
-    let numbers: &[u8] = if inverse { &[10, 12, 13] } else { &[10, 11, 12, 13] };
-    let mut tally = Tally::new(name, numbers);
-    for _ in 0..calls {
-        let mut call = valid(inverse, random);
-        let always = random.pick(numbers);
-        let alone = random.chance(40);
-        for &number in numbers {
-            if number == always || (!alone && random.chance(40)) {
-                spoil(&mut call, number, random);
-            }
-        }
-        let reasons = call.check(random.byte())?;
-        tally.count(&reasons);
+fn damaged(inverse: bool, random: &mut Random) -> Call {
+    let mut call = valid(inverse, random);
+    for number in damage::choose(numbers(inverse), random) {
+        spoil(&mut call, number, random);
     }
-    tally.finish()
+    call
 }
 
 fn spoil(call: &mut Call, number: u8, random: &mut Random) {

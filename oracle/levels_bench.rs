@@ -27,7 +27,7 @@ struct Setting {
 }
 
 pub fn bench(wanted: &mut Wanted) {
-    let mut table = Table::new("levels, scan and events, a block", ("ns", 1.0));
+    let mut table = Table::new("levels, scan and events, a block");
     let mut settings = Vec::new();
     for first_method in [false, true] {
         let group = format!("levels {} method", if first_method { "first" } else { "second" });

@@ -40,7 +40,7 @@ pub struct Row {
 pub fn bench(wanted: &mut Wanted) {
     let stills = PICTURES.map(Still::new);
     let weights = weights();
-    let mut table = Table::new("search and coding, a macroblock", ("ns", 1.0));
+    let mut table = Table::new("search and coding, a macroblock");
     let rows = rows();
     let predictions: Vec<Vec<Predicted>> =
         rows.iter().map(|row| predictions(row, &stills[row.picture as usize])).collect();

@@ -6,12 +6,14 @@
 mod coder;
 mod place;
 
-pub use coder::{blocks_of, prediction_of, rows_of, scan_of, view_of, Blocks, Coded, Coder};
+pub use coder::{
+    blocks_of, prediction_of, rows_of, scan_number, scan_of, view_of, Blocks, Coded, Coder,
+};
 pub use place::{luma_view, Part, Place};
 
 use crate::bvop_prediction::BVopSampleMode;
 use crate::fdct::forward_dct_8x8;
-use crate::ivop_encode::{forward_scan, qfs_to_events, FrameView};
+use crate::ivop_encode::{forward_scan, qfs_to_events, EncoderConfig, FrameView};
 use crate::motion::MotionVector;
 use crate::pvop_mv::PvopMbMotion;
 use crate::quantise::{quantise_method1_inter, quantise_method2_inter};

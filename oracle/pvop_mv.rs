@@ -1,5 +1,5 @@
 //! `predict_luma_macroblock`, which the original search calls and which is in none of the original
-//! files. Document 01's rule is its meaning: one vector, one 16 x 16 block by the interpolator of
+//! files. The rule is its meaning: one vector, one 16 x 16 block by the interpolator of
 //! the mode. The search asks for one vector only.
 
 use crate::bvop_prediction::BVopSampleMode;

@@ -1,36 +1,32 @@
-//! The two interpolations: `interpolate_block_into` and `interpolate_block_qpel_into`.
+//! The two interpolations: `interpolate_block_into` and `interpolate_block_qpel_into`. Luma
+//! prediction uses their planes, calls and refusals.
 
-mod call;
+pub mod call;
 mod check;
 mod coverage;
-mod damage;
+pub mod damage;
 mod listed;
-mod plane;
-mod refusal;
-mod valid;
+pub mod plane;
+pub mod refusal;
+pub mod valid;
 
+use crate::damage::Store;
 use crate::options::Options;
 use crate::random::Random;
-use crate::summary::Summary;
+use crate::summary::Row;
 use crate::tally::Tally;
 use call::Function;
 use check::check;
-use plane::Plane;
 
-const CALLS_PER_PLANE: usize = 250;
-
-pub fn compare(options: &Options) -> Result<Summary, String> {
-    let mut equal = Vec::new();
-    let mut refusals = 0;
-    for function in [Function::Half, Function::Quarter] {
-        let cases = listed::compare(function)?;
-        println!("{}: {cases} listed cases equal", function.name());
-        valid_calls(function, options)?;
-        damaged_calls(function, options)?;
-        equal.push((function.name(), options.valid));
-        refusals += options.refused;
-    }
-    Ok(Summary { equal, refusals })
+pub fn compare(options: &Options) -> Vec<Row> {
+    let rows = [Function::Half, Function::Quarter].map(|function| {
+        let mut row = Row::new(function.name());
+        row.listed(listed::compare(function));
+        valid_calls(function, options, &mut row);
+        damaged_calls(function, options, &mut row);
+        row
+    });
+    rows.into()
 }
 
 /// Each part has its own generator, so that the count of one doesn't change the calls of another.
@@ -39,44 +35,27 @@ fn generator(options: &Options, function: Function, part: u64) -> Random {
     Random::new(options.seed.wrapping_add(part << 48))
 }
 
-fn valid_calls(function: Function, options: &Options) -> Result<(), String> {
+fn valid_calls(function: Function, options: &Options, row: &mut Row) {
     let mut random = generator(options, function, 0);
     let mut coverage = coverage::Valid::default();
-    for turn in 0..options.valid.div_ceil(CALLS_PER_PLANE) {
-        let plane = Plane::random(turn, &mut random);
-        let largest = plane.largest();
-        let left = options.valid - turn * CALLS_PER_PLANE;
-        for _ in 0..left.min(CALLS_PER_PLANE) {
-            let call = valid::call(function, &plane, largest, &mut random);
-            check(&call, 0, random.byte())?;
-            coverage.count(&call, &plane, largest);
-        }
-        if !plane.unchanged() {
-            return Err(samples_changed(function));
-        }
-    }
+    plane::calls(options.valid, row, &mut random, |plane, row, random| {
+        let call = valid::call(function, plane, random);
+        row.valid(check(&call, 0, random.byte()));
+        coverage.count(&call, plane);
+    });
     coverage.print(function);
-    coverage.complete(function)
+    row.covered(coverage.complete(function));
 }
 
-fn damaged_calls(function: Function, options: &Options) -> Result<(), String> {
+fn damaged_calls(function: Function, options: &Options, row: &mut Row) {
     let mut random = generator(options, function, 1);
-    let mut store = vec![0; damage::STORE];
-    random.fill(&mut store);
-    let before = store.clone();
-    let mut tally = Tally::new(function.name(), refusal::numbers(function));
-    for _ in 0..options.refused {
-        let call = damage::call(function, &store, &mut random);
+    let store = Store::random(&mut random);
+    let tally = Tally::new(function.name(), refusal::numbers(function));
+    tally.run(row, options.refused, || {
+        let call = damage::call(function, &store.samples, &mut random);
         let reasons = refusal::reasons(&call);
-        check(&call, reasons[0], random.byte())?;
-        tally.count(&reasons);
-    }
-    if store != before {
-        return Err(samples_changed(function));
-    }
-    tally.finish().map(|_| ())
-}
-
-fn samples_changed(function: Function) -> String {
-    format!("MISMATCH: a {} call changed the reference samples", function.name())
+        let found = check(&call, reasons[0], random.byte());
+        (reasons, found)
+    });
+    row.unchanged(store.unchanged());
 }

@@ -99,7 +99,7 @@ impl Interpolation for Quarter {
 pub fn bench<I: Interpolation>(wanted: &mut Wanted) {
     let mut samples = vec![0; WIDTH * HEIGHT];
     Random::new(1).fill(&mut samples);
-    let mut table = Table::new(I::TITLE, ("ns", 1.0));
+    let mut table = Table::new(I::TITLE);
     let mut settings = Vec::new();
     for side in SIDES {
         for (place, word) in PLACES {

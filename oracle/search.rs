@@ -15,9 +15,10 @@ mod sums;
 pub mod valid;
 mod walk;
 
+use crate::damage::Store;
 use crate::options::Options;
 use crate::random::Random;
-use crate::summary::Summary;
+use crate::summary::Row;
 use crate::tally::Tally;
 use call::Function;
 use check::check;
@@ -30,16 +31,15 @@ const CALLS_PER_SCENE: usize = 5;
 /// many valid calls that are asked for.
 const SHARE: usize = 10;
 
-pub fn compare(options: &Options) -> Result<Summary, String> {
-    let mut equal = Vec::new();
-    let mut refusals = 0;
-    for function in [Function::One, Function::Four] {
-        let cases = listed::compare(function)?;
-        println!("{}: {cases} listed cases equal", function.name());
-        equal.push((function.name(), valid_calls(function, options)?));
-        refusals += damaged_calls(function, options)?;
-    }
-    Ok(Summary { equal, refusals })
+pub fn compare(options: &Options) -> Vec<Row> {
+    let rows = [Function::One, Function::Four].map(|function| {
+        let mut row = Row::new(function.name());
+        row.listed(listed::compare(function));
+        valid_calls(function, options, &mut row);
+        damaged_calls(function, options, &mut row);
+        row
+    });
+    rows.into()
 }
 
 /// Each part has its own generator, so that the count of one doesn't change the calls of another.
@@ -48,7 +48,7 @@ fn generator(options: &Options, function: Function, part: u64) -> Random {
     Random::new(options.seed.wrapping_add(part << 48))
 }
 
-fn valid_calls(function: Function, options: &Options) -> Result<usize, String> {
+fn valid_calls(function: Function, options: &Options, row: &mut Row) {
     let mut random = generator(options, function, 0);
     let mut coverage = Coverage::new(function);
     let calls = options.valid / SHARE;
@@ -57,36 +57,27 @@ fn valid_calls(function: Function, options: &Options) -> Result<usize, String> {
         let left = calls - turn * CALLS_PER_SCENE;
         for _ in 0..left.min(CALLS_PER_SCENE) {
             let call = valid::call(function, &scene, &mut random);
-            let answer = check(&call, 0, random.byte())
-                .map_err(|text| format!("picture {:?}, {}\n{text}", scene.kind, scene.shape))?;
-            coverage.count(&call, &scene, &answer)?;
+            let found = check(&call, 0, random.byte())
+                .map_err(|text| format!("picture {:?}, {}\n{text}", scene.kind, scene.shape));
+            if let Some(answer) = row.valid(found) {
+                row.covered(coverage.count(&call, &scene, &answer));
+            }
         }
-        if !scene.unchanged() {
-            return Err(samples_changed(function));
-        }
+        row.unchanged(scene.unchanged());
     }
-    coverage.finish()
+    row.covered(coverage.finish());
 }
 
-fn damaged_calls(function: Function, options: &Options) -> Result<usize, String> {
+fn damaged_calls(function: Function, options: &Options, row: &mut Row) {
     let mut random = generator(options, function, 1);
-    let mut store = vec![0; damage::STORE];
-    random.fill(&mut store);
-    let before = store.clone();
+    let store = Store::random(&mut random);
     // A mode that is neither is not quarter mode, so 2 and 3 exclude each other.
-    let mut tally = Tally::new(function.name(), refusal::numbers(function)).without(1);
-    for _ in 0..options.refused {
-        let call = damage::call(function, &store, &mut random);
+    let tally = Tally::new(function.name(), refusal::numbers(function)).without(1);
+    tally.run(row, options.refused, || {
+        let call = damage::call(function, &store.samples, &mut random);
         let reasons = refusal::reasons(&call);
-        check(&call, reasons[0], random.byte())?;
-        tally.count(&reasons);
-    }
-    if store != before {
-        return Err(samples_changed(function));
-    }
-    tally.finish()
-}
-
-fn samples_changed(function: Function) -> String {
-    format!("MISMATCH: a call of {} changed the samples lent for reading", function.name())
+        let found = check(&call, reasons[0], random.byte());
+        (reasons, found)
+    });
+    row.unchanged(store.unchanged());
 }

@@ -57,7 +57,7 @@ struct Row {
 
 pub fn bench(wanted: &mut Wanted) {
     let pictures = PICTURES.map(pictures);
-    let mut table = Table::new("search, a macroblock", ("ns", 1.0));
+    let mut table = Table::new("search, a macroblock");
     let mut timed: Vec<(Function, Vec<Work>, Vec<Times>)> = Vec::new();
     for row in &mut rows() {
         let (name, group) = row.names();

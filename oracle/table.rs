@@ -1,5 +1,5 @@
-//! A table of rows that are timed: it measures each in several passes, once more and up to three
-//! times where a figure misses what is wanted of it, and prints all beside what is wanted.
+//! A set of rows that are timed: it measures each in several passes, once more and up to three times
+//! where a figure misses what is wanted of it, and hands all on to be printed.
 
 use crate::timing::Times;
 use crate::wanted::Wanted;
@@ -27,15 +27,13 @@ struct Group {
 
 pub struct Table {
     title: &'static str,
-    /// The name of the unit that is printed, and its nanoseconds.
-    unit: (&'static str, f64),
     rows: Vec<Row>,
     groups: Vec<Group>,
 }
 
 impl Table {
-    pub fn new(title: &'static str, unit: (&'static str, f64)) -> Self {
-        Table { title, unit, rows: Vec::new(), groups: Vec::new() }
+    pub fn new(title: &'static str) -> Self {
+        Table { title, rows: Vec::new(), groups: Vec::new() }
     }
 
     /// A row not timed yet, in these groups.
@@ -54,7 +52,7 @@ impl Table {
         }
     }
 
-    /// Measures and prints. `time` is handed a row's number and its best times so far, and answers
+    /// Measures. `time` is handed a row's number and its best times so far, and answers
     /// the better ones. Every row is timed in each pass, so that a slow spell of the machine spoils
     /// no row.
     pub fn run(
@@ -72,7 +70,7 @@ impl Table {
             }
             self.passes(passes, &missed, &mut time);
         }
-        self.print(wanted);
+        self.judge(wanted);
     }
 
     fn passes(
@@ -110,24 +108,14 @@ impl Table {
         }
     }
 
-    fn print(&self, wanted: &mut Wanted) {
-        let (unit, size) = self.unit;
-        let names = self.rows.iter().map(|row| &row.name);
-        let names = names.chain(self.groups.iter().map(|group| &group.name));
-        let wide = names.map(String::len).chain([self.title.len()]).max().unwrap_or(0);
-        let (rust, rattle) = (format!("Rust {unit}"), format!("Rattle {unit}"));
-        println!("{:<wide$}  {rust:>9}  {rattle:>9}   ratio  wanted", self.title);
-        let places = if size == 1.0 { 1 } else { 0 };
+    /// Hands the figures on; the titles tell how far a run has come.
+    fn judge(&self, wanted: &mut Wanted) {
+        println!("{}: {} rows", self.title, self.rows.len());
         for Row { name, times } in &self.rows {
-            let (rust, rattle, ratio) = (times.rust / size, times.rattle / size, times.ratio());
-            let text = wanted.judge(name, ratio);
-            println!("{name:<wide$}  {rust:>9.places$}  {rattle:>9.places$}  {ratio:>6.2}  {text}");
+            wanted.judge(name, Some(*times), times.ratio());
         }
         for group in &self.groups {
-            let (ratio, name) = (self.over(group), &group.name);
-            let text = wanted.judge(name, ratio);
-            println!("{name:<wide$}  {:>9}  {:>9}  {ratio:>6.2}  {text}", "", "");
+            wanted.judge(&group.name, None, self.over(group));
         }
-        println!();
     }
 }

@@ -1,5 +1,6 @@
 //! Counts of what damaged calls covered: every number alone, and before each later one.
 
+use crate::summary::Row;
 use std::collections::{BTreeMap, BTreeSet};
 
 /// A run of at least this many calls has to cover everything that is counted.
@@ -36,6 +37,21 @@ impl Tally {
         Tally { enough, ..self }
     }
 
+    /// So many damaged calls of an entry: each one's reasons, in order, and how it was answered.
+    pub fn run<T>(
+        mut self,
+        row: &mut Row,
+        calls: usize,
+        mut call: impl FnMut() -> (Vec<u8>, Result<T, String>),
+    ) {
+        for _ in 0..calls {
+            let (reasons, found) = call();
+            row.refused(found);
+            self.count(&reasons);
+        }
+        row.covered(self.finish());
+    }
+
     /// All reasons of one call, in order.
     pub fn count(&mut self, reasons: &[u8]) {
         self.calls += 1;
@@ -46,8 +62,8 @@ impl Tally {
         }
     }
 
-    /// Prints the counts; an error if a long run left something out. The count of calls.
-    pub fn finish(self) -> Result<usize, String> {
+    /// Prints the counts; an error if a long run left something out.
+    pub fn finish(self) -> Result<(), String> {
         let all = self.numbers.len();
         let every = self.every;
         let words: Vec<String> = self.replies.iter().map(|(n, c)| format!("{n} {c}")).collect();
@@ -62,6 +78,6 @@ impl Tally {
         if self.calls >= self.enough && !covered {
             return Err(format!("{}: the damaged calls left something uncovered", self.name));
         }
-        Ok(self.calls)
+        Ok(())
     }
 }

@@ -18,7 +18,7 @@ const SORTS: [(&str, i32, u64); 3] = [("noise", 255, 100), ("small", 12, 100), (
 
 pub fn bench(wanted: &mut Wanted) {
     let mut random = Random::new(1);
-    let mut table = Table::new("transform, a block", ("ns", 1.0));
+    let mut table = Table::new("transform, a block");
     let sorts = SORTS.map(|(name, most, share)| {
         table.row(format!("transform {name}"), &[("transform", Over::Sums)]);
         let blocks: [[[i32; 8]; 8]; MIX] = std::array::from_fn(|_| block(most, share, &mut random));

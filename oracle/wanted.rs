@@ -1,6 +1,8 @@
 //! The wanted figures: of each row the least ratio to the Rust, or for a share the number that it is
-//! to stay below. A line of the file is `>= 0.77  NAME` or `< 0.1  NAME`; # begins a comment.
+//! to stay below. A line of the file is `>= 0.77  NAME` or `< 0.1  NAME`; # begins a comment. Beside
+//! them the figures found, which are one table at the end.
 
+use crate::timing::Times;
 use std::fs;
 
 #[derive(Clone, Copy)]
@@ -15,8 +17,17 @@ struct Line {
     asked: bool,
 }
 
+/// A row of the table. Of a figure over several rows there are no times.
+struct Found {
+    name: String,
+    times: Option<Times>,
+    figure: f64,
+    text: String,
+}
+
 pub struct Wanted {
     lines: Vec<Line>,
+    found: Vec<Found>,
     faults: Vec<String>,
 }
 
@@ -37,7 +48,7 @@ impl Wanted {
             }
             lines.push(line);
         }
-        Ok(Wanted { lines, faults: Vec::new() })
+        Ok(Wanted { lines, found: Vec::new(), faults: Vec::new() })
     }
 
     /// Whether a figure is as it is wanted. A row that has no line is never.
@@ -49,21 +60,35 @@ impl Wanted {
         }
     }
 
-    /// What stands beside a figure in print; a miss is kept for the end.
-    pub fn judge(&mut self, name: &str, figure: f64) -> String {
+    /// A figure found, which is printed at the end beside what is wanted.
+    pub fn judge(&mut self, name: &str, times: Option<Times>, figure: f64) {
         if let Some(line) = self.lines.iter_mut().find(|line| line.name == name) {
             line.asked = true;
         }
-        let text = match self.bound(name) {
+        let mut text = match self.bound(name) {
             Some(Bound::AtLeast(least)) => format!(">= {least:.2}"),
             Some(Bound::Below(most)) => format!("< {most:.2}"),
             None => "no figure".to_string(),
         };
-        if self.holds(name, figure) {
-            return text;
+        if !self.holds(name, figure) {
+            self.faults.push(format!("{name}: {figure:.3}, wanted {text}"));
+            text += "  missed";
         }
-        self.faults.push(format!("{name}: {figure:.3}, wanted {text}"));
-        format!("{text}  missed")
+        self.found.push(Found { name: name.to_string(), times, figure, text });
+    }
+
+    /// The table, and a line for each miss.
+    pub fn print(&self) {
+        let wide = self.found.iter().map(|found| found.name.len()).max().unwrap_or(0);
+        println!("{:<wide$}  {:>12}  {:>12}   ratio  wanted", "row", "Rust ns", "Rattle ns");
+        for Found { name, times, figure, text } in &self.found {
+            let time = |of: fn(&Times) -> f64| {
+                times.map_or(String::new(), |times| format!("{:.1}", of(&times)))
+            };
+            let (rust, rattle) = (time(|times| times.rust), time(|times| times.rattle));
+            println!("{name:<wide$}  {rust:>12}  {rattle:>12}  {figure:>6.2}  {text}");
+        }
+        self.faults.iter().for_each(|fault| println!("missed: {fault}"));
     }
 
     /// Lines whose row nothing has asked for. Where all rows are timed there is none.
@@ -73,8 +98,8 @@ impl Wanted {
         }
     }
 
-    pub fn faults(&self) -> &[String] {
-        &self.faults
+    pub fn missed(&self) -> usize {
+        self.faults.len()
     }
 
     fn bound(&self, name: &str) -> Option<Bound> {

@@ -1,4 +1,4 @@
-//! The first eight bytes of a clip, and what turns them back, written from document 01.
+//! The first eight bytes of a clip, and what turns them back, written from the rules.
 
 /// Its length.
 pub const HEADER: usize = 8;

@@ -1,5 +1,5 @@
 //! What broodline is to print. A macroblock is coded by the originals; what is read, turned back
-//! and printed is written from document 01, as the originals have nothing of it.
+//! and printed is written from the rules, as the originals have nothing of it.
 
 use super::header::{Header, HEADER};
 use crate::ask::{Coding, Prediction, Quantising, Reference, Search, Source};

@@ -71,7 +71,7 @@ pub fn of(clip: &Moving, text: &str) -> Vec<Mark> {
     all.extend(clip.predictions.iter().map(|kind| (PREDICTIONS, format!("{kind:?}"))));
     let quantisers = vec![
         ("1", header.quantiser == 1),
-        ("even", header.quantiser % 2 == 0),
+        ("even", header.quantiser.is_multiple_of(2)),
         ("odd above 1", header.quantiser % 2 == 1 && header.quantiser > 1),
         ("31", header.quantiser == 31),
     ];

@@ -87,18 +87,17 @@ pub fn missed<'a>(lines: impl Iterator<Item = &'a Line> + Clone, wanted: &Wanted
 pub fn print<'a>(lines: impl Iterator<Item = &'a Line> + Clone, wanted: &mut Wanted) {
     let shared = Shared::of(lines.clone());
     println!("in us: start, planes, first, again, whole; at most: the share with again for first");
-    let head = "start  planes  first  again  whole  at most   share  wanted";
+    let head = "start  planes  first  again  whole  at most   share";
     println!("{:<57}  {head}", "reading and printing");
     for line in lines.filter(|line| line.fcode == 1) {
         let (name, share) = (name(line), shared.share(line, line.first));
         let [start, planes] = [shared.start, shared.planes].map(|time| time / 1e3);
         let [first, again, whole] = [line.first, line.again, line.times.rattle].map(|t| t / 1e3);
         let most = shared.share(line, line.again);
-        let text = wanted.judge(&name, share);
+        wanted.judge(&name, None, share);
         println!(
             "{name:<57}  {start:>5.0}  {planes:>6.0}  {first:>5.0}  {again:>5.0}  {whole:>5.0}  \
-             {most:>7.3}  {share:>6.3}  {text}"
+             {most:>7.3}  {share:>6.3}"
         );
     }
-    println!();
 }

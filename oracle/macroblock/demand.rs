@@ -1,6 +1,6 @@
 //! Demand 3, sentence by sentence, of one accepted call and its answer. What the answer means is
 //! what the reader makes of it; sums on the lists are its sums too. Coefficients are the original
-//! transform's; their levels are worked out here, by document 01's rule. What the reader inverts is
+//! transform's; their levels are worked out here, by the rule. What the reader inverts is
 //! also held to the original's inverse, as a nearer one than the standard's would pass unnoticed.
 
 use super::lists::{At, Bounds, List};
@@ -185,7 +185,7 @@ impl<'a> Demand<'a> {
         forward_dct_8x8(&rows, 8).concat()
     }
 
-    /// Document 01's level of a coefficient at a place of its block.
+    /// The level of a coefficient at a place of its block.
     fn level(&self, f: i32, place: usize) -> i32 {
         let quantising = &self.coding.quantising;
         let q = quantising.quantiser as i32;
@@ -269,10 +269,10 @@ fn square(plane: &Source, side: usize, x: usize, y: usize) -> Samples {
 /// Source less prediction, four blocks of luma, Cb, Cr.
 fn residual(m: &Macroblock, luma: &[i32]) -> Vec<i32> {
     let mut residual = vec![0; 384];
-    for k in 0..256 {
+    for (k, (sample, predicted)) in luma.iter().zip(m.prediction.y).enumerate() {
         let (i, j) = (k % 16, k / 16);
         let block = j / 8 * 2 + i / 8;
-        residual[64 * block + j % 8 * 8 + i % 8] = luma[k] - i32::from(m.prediction.y[k]);
+        residual[64 * block + j % 8 * 8 + i % 8] = sample - i32::from(*predicted);
     }
     let (width, height) = (m.source.width.div_ceil(2), m.source.height.div_ceil(2));
     for (plane, predicted, from) in [(m.cb, m.prediction.cb, 256), (m.cr, m.prediction.cr, 320)] {

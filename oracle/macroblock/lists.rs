@@ -1,4 +1,4 @@
-//! Document 01's candidate lists, written out entry by entry. The best so far is the first of least
+//! The candidate lists, written out entry by entry. The best so far is the first of least
 //! cost listed before; for a ring or a row, before its first entry.
 
 /// Half the side of the square that is listed sample by sample.

@@ -4,7 +4,7 @@ use super::generator;
 use crate::guard::{held, Lent};
 use crate::options::Options;
 use crate::pvop_encode::inter_cbp;
-use crate::summary::Summary;
+use crate::summary::Row;
 use crate::texture::AcEvent;
 use hencouch::raw;
 
@@ -24,14 +24,10 @@ fn check(counts: &[u8; 6], salt: u8) -> Result<(), String> {
     found.and(same).map_err(|text| format!("MISMATCH: {NAME}: {text}\ncounts: {counts:?}"))
 }
 
-pub fn compare(options: &Options) -> Result<Summary, String> {
+pub fn compare(options: &Options) -> Vec<Row> {
+    let mut row = Row::never_refused(NAME);
     let mut random = generator(options, 4);
-    for coded in 0..64 {
-        for count in [1, 2, 64, 128, 255] {
-            check(&std::array::from_fn(|b| if coded >> b & 1 == 1 { count } else { 0 }), 0xA5)?;
-        }
-    }
-    println!("{NAME}: 320 listed cases equal: all 64 sets of blocks with events");
+    row.listed(every_set());
     for _ in 0..options.valid {
         let percent = random.pick(&[10, 50, 90]);
         let most = random.pick(&[1, 64, 255]);
@@ -39,8 +35,18 @@ pub fn compare(options: &Options) -> Result<Summary, String> {
             true => random.int(1, most) as u8,
             false => 0,
         });
-        check(&counts, random.byte())?;
+        row.valid(check(&counts, random.byte()));
     }
-    println!("{NAME}: {} valid calls equal", options.valid);
-    Ok(Summary { equal: vec![(NAME, options.valid)], refusals: 0 })
+    vec![row]
+}
+
+/// All 64 sets of blocks with events, of several counts each.
+fn every_set() -> Result<usize, String> {
+    let counts = [1, 2, 64, 128, 255];
+    for coded in 0..64 {
+        for count in counts {
+            check(&std::array::from_fn(|b| if coded >> b & 1 == 1 { count } else { 0 }), 0xA5)?;
+        }
+    }
+    Ok(64 * counts.len())
 }

@@ -9,7 +9,7 @@ use crate::damage;
 use crate::options::Options;
 use crate::pvop_encode::{quantise_inter_block, quantise_inter_residual, rows_of, scan_of};
 use crate::random::Random;
-use crate::summary::Summary;
+use crate::summary::Row;
 use crate::tally::Tally;
 use crate::texture::AcEvent;
 use crate::transform::block::{residual, Kind};
@@ -67,22 +67,24 @@ impl Call {
 
     /// Holds the library to `reply`; the original's answer, for a call with nothing wrong.
     fn check(&self, reply: u8, random: &mut Random) -> Result<Laid, String> {
-        let Call { quantiser, first_method, weights, scan, .. } = self;
-        let (quantiser, first_method, scan) = (*quantiser, *first_method, *scan);
-        let quantising = Quantising { quantiser, first_method, weights, scan };
+        let Call { quantiser, first_method, weights, scan, residual, .. } = self.clone();
+        let quantising = Quantising { quantiser, first_method, weights: &weights, scan };
         let mut lent = EventsLent::new(self.lens, self.function.blocks(), random);
         let (areas, counts) = lent.areas();
         let got = match self.function {
             Function::Block => {
-                ask::quantise_inter_block(&self.residual, &quantising, areas, &mut counts[0])
+                ask::quantise_inter_block(&residual, &quantising, areas, &mut counts[0])
             }
             Function::Residual => {
                 let counts = counts.try_into().expect("six counts");
-                ask::quantise_inter_residual(&self.residual, &quantising, areas, counts)
+                ask::quantise_inter_residual(&residual, &quantising, areas, counts)
             }
         };
         let wanted = if reply == 0 { Laid::out(&self.ask_original()) } else { Laid::default() };
-        lent.held(got, reply, &wanted).map_err(|text| format!("MISMATCH: {text}\n{self:?}"))?;
+        let same = residual == self.residual && weights == self.weights;
+        let same = same.then_some(()).ok_or("residual or weights were changed".to_string());
+        let found = lent.held(got, reply, &wanted).and(same);
+        found.map_err(|text| format!("MISMATCH: {text}\n{self:?}"))?;
         Ok(wanted)
     }
 
@@ -100,21 +102,27 @@ impl Call {
     }
 }
 
-pub fn compare(options: &Options) -> Result<Summary, String> {
-    let mut equal = Vec::new();
-    let mut refusals = 0;
-    for function in [Function::Block, Function::Residual] {
+pub fn compare(options: &Options) -> Vec<Row> {
+    let rows = [Function::Block, Function::Residual].map(|function| {
+        let mut row = Row::new(function.name());
         let mut random = generator(options, 2 + function as u64);
         let mut counted = Counted::new(function.name(), all_marks());
         for turn in 0..options.valid {
             let call = valid(function, turn, &mut random);
-            let wanted = call.check(0, &mut random)?;
-            counted.count(marks_of(&call, &wanted));
+            if let Some(wanted) = row.valid(call.check(0, &mut random)) {
+                counted.count(marks_of(&call, &wanted));
+            }
         }
-        equal.push((function.name(), counted.finish()?));
-        refusals += damaged_calls(function, options.refused, &mut random)?;
-    }
-    Ok(Summary { equal, refusals })
+        row.covered(counted.finish());
+        Tally::new(function.name(), NUMBERS).run(&mut row, options.refused, || {
+            let call = damaged(function, &mut random);
+            let reasons = call.reasons();
+            let found = call.check(reasons[0], &mut random);
+            (reasons, found)
+        });
+        row
+    });
+    rows.into()
 }
 
 /// A call with nothing wrong. Under the second method the matrix may hold zeros.
@@ -156,23 +164,12 @@ pub fn weights(first_method: u8, random: &mut Random) -> Vec<u8> {
     }
 }
 
-/// One thing wrong, or several at once, so that the order of the numbers shows.
-fn damaged_calls(function: Function, calls: usize, random: &mut Random) -> Result<usize, String> {
-    let mut tally = Tally::new(function.name(), NUMBERS);
-    for turn in 0..calls {
-        let mut call = valid(function, turn, random);
-        let always = random.pick(NUMBERS);
-        let alone = random.chance(40);
-        for &number in NUMBERS {
-            if number == always || (!alone && random.chance(40)) {
-                spoil(&mut call, number, random);
-            }
-        }
-        let reasons = call.reasons();
-        call.check(reasons[0], random)?;
-        tally.count(&reasons);
+fn damaged(function: Function, random: &mut Random) -> Call {
+    let mut call = valid(function, random.size(0, 6), random);
+    for number in damage::choose(NUMBERS, random) {
+        spoil(&mut call, number, random);
     }
-    tally.finish()
+    call
 }
 
 fn spoil(call: &mut Call, number: u8, random: &mut Random) {

@@ -1,4 +1,4 @@
-//! The reader of demand 3, written from document 01 and apart from the coder: it uses no function
+//! The reader of demand 3, written from the rules and apart from the coder: it uses no function
 //! of the library, and none of the originals. It is handed the coder's answer, and of the call's
 //! arguments the reference, the macroblock's place, the mode with its bits per pixel, the scan and
 //! the quantiser; neither the source nor the prediction coded against. Its rounding type is 0. By
@@ -6,7 +6,7 @@
 
 use crate::ask::Reference;
 
-/// The three grids of document 01's scans, by number: at a row and a column the place in the scan.
+/// The three grids of the scans, by number: at a row and a column the place in the scan.
 const GRIDS: [[[usize; 8]; 8]; 3] = [
     [
         [0, 1, 2, 3, 10, 11, 12, 13],

@@ -11,7 +11,7 @@ use crate::guard::{held, Lent};
 use crate::options::Options;
 use crate::pvop_encode::{blocks_of, macroblock_residual, prediction_of, view_of};
 use crate::random::Random;
-use crate::summary::Summary;
+use crate::summary::Row;
 use crate::tally::Tally;
 
 const NAME: &str = "macroblock_residual";
@@ -82,7 +82,8 @@ impl Call<'_> {
     }
 }
 
-pub fn compare(options: &Options) -> Result<Summary, String> {
+pub fn compare(options: &Options) -> Vec<Row> {
+    let mut row = Row::new(NAME);
     let mut random = generator(options, 1);
     let planes = Planes::new(&mut random);
     let mut counted = Counted::new(NAME, all_marks());
@@ -92,19 +93,19 @@ pub fn compare(options: &Options) -> Result<Summary, String> {
         let predicted = Predicted::random(&macroblock, &mut random);
         macroblock.prediction = predicted.lent();
         let call = Call { macroblock, out_len: 384 };
-        let residual = call.check(0, random.byte())?;
-        counted.count(marks_of(&call, kind, predicted.kind, &residual));
+        if let Some(residual) = row.valid(call.check(0, random.byte())) {
+            counted.count(marks_of(&call, kind, predicted.kind, &residual));
+        }
     }
-    let calls = counted.finish()?;
-    let mut tally = Tally::new(NAME, NUMBERS);
-    for _ in 0..options.refused {
+    row.covered(counted.finish());
+    Tally::new(NAME, NUMBERS).run(&mut row, options.refused, || {
         let call = damaged(&planes, &mut random);
         let reasons = call.reasons();
-        call.check(reasons[0], random.byte())?;
-        tally.count(&reasons);
-    }
-    planes.unchanged(NAME)?;
-    Ok(Summary { equal: vec![(NAME, calls)], refusals: tally.finish()? })
+        let found = call.check(reasons[0], random.byte());
+        (reasons, found)
+    });
+    row.unchanged(planes.unchanged());
+    vec![row]
 }
 
 /// A macroblock with nothing wrong, against noise.
@@ -124,12 +125,7 @@ fn damaged<'a>(planes: &'a Planes, random: &mut Random) -> Call<'a> {
     let mut call = Call { macroblock: valid(planes, 0, random), out_len: 384 };
     let m = &mut call.macroblock;
     (m.source.samples, m.cb, m.cr) = (planes.whole(0), planes.whole(1), planes.whole(2));
-    let always = random.pick(NUMBERS);
-    let share = random.pick(&[0, 40]);
-    for &number in NUMBERS {
-        if number != always && !random.chance(share) {
-            continue;
-        }
+    for number in damage::choose(NUMBERS, random) {
         match number {
             6 => damage::sides(&mut call.macroblock.source, random),
             7 => shorten(&mut call.macroblock, random),

@@ -3,10 +3,10 @@
 
 pub mod call;
 pub mod check;
-mod damage;
+pub mod damage;
 mod forms;
 mod marks;
-mod refusal;
+pub mod refusal;
 mod still;
 mod valid;
 
@@ -14,8 +14,9 @@ use super::demand::{Checked, Demand};
 use super::generator;
 use super::planes::Planes;
 use crate::counted::Counted;
+use crate::damage::choose;
 use crate::options::Options;
-use crate::summary::Summary;
+use crate::summary::Row;
 use crate::tally::Tally;
 use call::Call;
 use check::check;
@@ -29,12 +30,14 @@ const CALLS_PER_PICTURE: usize = 5;
 /// are asked for.
 const SHARE: usize = 10;
 
-pub fn compare(options: &Options) -> Result<Summary, String> {
-    let calls = valid_calls(options)?;
-    Ok(Summary { equal: vec![(NAME, calls)], refusals: damaged_calls(options)? })
+pub fn compare(options: &Options) -> Vec<Row> {
+    let mut row = Row::new(NAME);
+    valid_calls(options, &mut row);
+    damaged_calls(options, &mut row);
+    vec![row]
 }
 
-fn valid_calls(options: &Options) -> Result<usize, String> {
+fn valid_calls(options: &Options, row: &mut Row) {
     let mut random = generator(options, 5);
     let mut counted = Counted::new(NAME, marks::all());
     let mut checked = Checked::default();
@@ -47,39 +50,35 @@ fn valid_calls(options: &Options) -> Result<usize, String> {
             coding.prediction = predicted.lent();
             coding.quantising.weights = &weights;
             let call = Call { coding, lens: [384; 3] };
-            let answer = check(&call, 0, &mut random)
-                .map_err(|text| format!("picture {:?}\n{text}", still.scene.kind))?;
-            Demand::new(&call.coding, &answer)
-                .check(&mut checked)
-                .map_err(|text| format!("MISMATCH: demand 3: {text}\n{call}{answer:?}"))?;
+            let found = check(&call, 0, &mut random)
+                .map_err(|text| format!("picture {:?}\n{text}", still.scene.kind));
+            let Some(answer) = row.valid(found) else { continue };
+            row.same(
+                Demand::new(&call.coding, &answer)
+                    .check(&mut checked)
+                    .map_err(|text| format!("MISMATCH: demand 3: {text}\n{call}{answer:?}")),
+            );
             counted.count(marks::of(&call, &still, predicted.kind, &answer));
             forms::count(&call, &answer, &mut counted);
         }
-        if !still.unchanged() {
-            return Err(samples_changed());
-        }
+        row.unchanged(still.unchanged());
     }
-    checked.finish(NAME, calls)?;
-    counted.finish()
+    row.covered(checked.finish(NAME, calls));
+    row.covered(counted.finish());
 }
 
-fn damaged_calls(options: &Options) -> Result<usize, String> {
+fn damaged_calls(options: &Options, row: &mut Row) {
     let mut random = generator(options, 6);
     let planes = Planes::new(&mut random);
     // A mode that is neither is not quarter mode, so 2 and 3 exclude each other.
-    let mut tally = Tally::new(NAME, refusal::NUMBERS).without(1);
-    for _ in 0..options.refused {
-        let numbers = damage::choose(&mut random);
+    let tally = Tally::new(NAME, refusal::NUMBERS).without(1);
+    tally.run(row, options.refused, || {
+        let numbers = choose(refusal::NUMBERS, &mut random);
         let weights = damage::weights(&numbers, &mut random);
         let call = damage::call(&numbers, &planes, &weights, &mut random);
         let reasons = refusal::reasons(&call);
-        check(&call, reasons[0], &mut random)?;
-        tally.count(&reasons);
-    }
-    planes.unchanged(NAME)?;
-    tally.finish()
-}
-
-fn samples_changed() -> String {
-    format!("MISMATCH: a call of {NAME} changed the samples lent for reading")
+        let found = check(&call, reasons[0], &mut random);
+        (reasons, found)
+    });
+    row.unchanged(planes.unchanged());
 }

@@ -44,7 +44,7 @@ pub fn bench(parts: &[Part], wanted: &mut Wanted) {
     let works: [Vec<Work>; 3] = std::array::from_fn(|k| {
         works(&rows[k], &stills[rows[k].picture as usize], &lent[k], &weights)
     });
-    let mut table = Table::new("parts of the coding, a macroblock", ("ns", 1.0));
+    let mut table = Table::new("parts of the coding, a macroblock");
     let mut timed = Vec::new();
     for part in parts {
         let group = format!("part {}", part.name);

@@ -1,4 +1,4 @@
-//! The originals put together as document 01 says of the entry that searches and codes: the search
+//! The originals put together as the rules say of the entry that searches and codes: the search
 //! for one vector, that for four seeded by it where they are wanted, the residual against the lent
 //! prediction, its events and their pattern. What differs in form is turned over here.
 
@@ -12,12 +12,21 @@ use crate::reconstruct::InterPredictionMacroblock;
 /// The six blocks of a macroblock, four of luma and two of chroma, each by rows.
 pub type Blocks = [[[i32; 8]; 8]; 6];
 
-/// Scan numbers by document 01.
+/// A scan by its number.
 pub fn scan_of(number: u32) -> ScanType {
     match number {
         0 => ScanType::AlternateHorizontal,
         1 => ScanType::AlternateVertical,
         _ => ScanType::Zigzag,
+    }
+}
+
+/// And back.
+pub fn scan_number(scan: ScanType) -> u32 {
+    match scan {
+        ScanType::AlternateHorizontal => 0,
+        ScanType::AlternateVertical => 1,
+        ScanType::Zigzag => 2,
     }
 }
 

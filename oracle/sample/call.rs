@@ -15,8 +15,16 @@ pub enum Function {
 impl Function {
     pub fn name(self) -> &'static str {
         match self {
-            Function::Half => "half",
-            Function::Quarter => "quarter",
+            Function::Half => "interpolate_block_into",
+            Function::Quarter => "interpolate_block_qpel_into",
+        }
+    }
+
+    /// The number of the mode that predicts by it.
+    pub fn mode(self) -> u32 {
+        match self {
+            Function::Half => 0,
+            Function::Quarter => 1,
         }
     }
 

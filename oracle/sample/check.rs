@@ -3,6 +3,7 @@
 
 use super::call::Call;
 use crate::guard::Lent;
+use crate::macroblock::lent::lines;
 
 /// Planes up to this length are printed whole.
 const WHOLE: usize = 1 << 15;
@@ -33,8 +34,8 @@ fn same_block(call: &Call, got: &[u8]) -> Result<(), String> {
     };
     let found = format!("output byte {at} is {}, wanted {}", got[at], wanted[at]);
     let width = call.block.block_w;
-    let wanted = rows("the original's block", &wanted, width);
-    let got = rows("the library's block", got, width);
+    let wanted = lines("the original's block", &wanted, width);
+    let got = lines("the library's block", got, width);
     Err(format!("MISMATCH: {found}\n{call}{}{wanted}{got}", samples(call)))
 }
 
@@ -43,7 +44,7 @@ fn same_block(call: &Call, got: &[u8]) -> Result<(), String> {
 fn samples(call: &Call) -> String {
     let r = &call.reference;
     if r.samples.len() <= WHOLE {
-        return rows("samples", r.samples, r.stride);
+        return lines("samples", r.samples, r.stride);
     }
     let (x, y) = call.start();
     let clamp = |at: i32, side: usize| at.clamp(0, side as i32 - 1) as usize;
@@ -53,14 +54,5 @@ fn samples(call: &Call) -> String {
             window.push(r.samples[clamp(y + j, r.height) * r.stride + clamp(x + i, r.width)]);
         }
     }
-    rows("samples that the block can read", &window, call.block.block_w + 1)
-}
-
-fn rows(title: &str, bytes: &[u8], width: usize) -> String {
-    let mut text = format!("{title}:\n");
-    for row in bytes.chunks(width) {
-        let words: Vec<String> = row.iter().map(|b| b.to_string()).collect();
-        text += &format!("  {}\n", words.join(" "));
-    }
-    text
+    lines("samples that the block can read", &window, call.block.block_w + 1)
 }

@@ -26,7 +26,7 @@ pub struct Valid {
 }
 
 impl Valid {
-    pub fn count(&mut self, call: &Call, plane: &Plane, largest: u8) {
+    pub fn count(&mut self, call: &Call, plane: &Plane) {
         let b = &call.block;
         let (x, y) = call.fractions();
         let bits = match call.function {
@@ -39,7 +39,7 @@ impl Valid {
         self.shapes[plane.shape] += 1;
         *self.places.entry(lies(call)).or_default() += 1;
         self.other_rounding += usize::from(b.rounding > 1);
-        self.above_bits += usize::from(u32::from(largest) >> call.bits_per_pixel != 0);
+        self.above_bits += usize::from(u32::from(plane.largest) >> call.bits_per_pixel != 0);
         for (name, number, low, high) in [
             ("origin_x", b.origin_x, -4096, 4096),
             ("origin_y", b.origin_y, -4096, 4096),

@@ -7,29 +7,31 @@ use crate::ask::{Block, Reference};
 use crate::damage::{beyond_32_bits, bits, cut, geometry};
 use crate::random::Random;
 
-/// Room for every plane used here, too long ones of a bad geometry included.
-pub const STORE: usize = 1 << 17;
-
 /// The longest output area lent here.
 const LONGEST: usize = 1024;
 
 pub fn call<'a>(function: Function, store: &'a [u8], random: &mut Random) -> Call<'a> {
     let mut call = sound(function, store, random);
     for number in choose(function, random) {
-        match number {
-            3 => call.bits_per_pixel = bits(random),
-            4 => geometry(&mut call.reference, random),
-            5 => cut(&mut call.reference, random),
-            8 => place(&mut call.block, random),
-            14 => sides(&mut call, random),
-            _ => length(&mut call, random),
-        }
+        spoil(&mut call, number, random);
     }
     call
 }
 
+/// Gives a call this reason. The length depends on the sides, so theirs is to be given before.
+pub fn spoil(call: &mut Call, number: u8, random: &mut Random) {
+    match number {
+        3 => call.bits_per_pixel = bits(random),
+        4 => geometry(&mut call.reference, random),
+        5 => cut(&mut call.reference, random),
+        8 => place(&mut call.block, random),
+        14 => sides(call, random),
+        _ => length(call, random),
+    }
+}
+
 /// A call with nothing wrong. Its samples are the whole store, longer than needed.
-fn sound<'a>(function: Function, store: &'a [u8], random: &mut Random) -> Call<'a> {
+pub fn sound<'a>(function: Function, store: &'a [u8], random: &mut Random) -> Call<'a> {
     let (width, height) = (random.size(1, 40), random.size(1, 40));
     let reference = Reference { samples: store, width, height, stride: width + random.size(0, 5) };
     let block = Block {

@@ -5,6 +5,7 @@ use super::call::{Call, Function};
 use super::check::check;
 use super::refusal;
 use crate::ask::{Block, Reference};
+use crate::damage::by_hand;
 use crate::random::Random;
 
 type Case = (&'static str, u8, fn(&mut Call));
@@ -15,16 +16,12 @@ pub fn compare(function: Function) -> Result<usize, String> {
     Random::new(1).fill(&mut store);
     let own = if function == Function::Quarter { QUARTER } else { &[] };
     let lists = [LENGTHS_AND_SIDES, GEOMETRY, SAMPLES, PLACES, ORDER, own];
-    for &(name, reply, change) in lists.iter().copied().flatten() {
+    let all = lists.iter().copied().flatten().map(|&(name, reply, change)| {
         let mut call = sound(function, &store);
         change(&mut call);
-        let first = refusal::reasons(&call).first().copied().unwrap_or(0);
-        if first != reply {
-            return Err(format!("{name}: listed as {reply}, worked out as {first}\n{call}"));
-        }
-        check(&call, reply, 0xA5).map_err(|text| format!("{name}\n{text}"))?;
-    }
-    Ok(lists.iter().map(|list| list.len()).sum())
+        (name, reply, call)
+    });
+    by_hand(all, refusal::reasons, |call, reply| check(call, reply, 0xA5))
 }
 
 /// A call with nothing wrong: 16 x 16 at the whole sample of a plane of 20 x 10, stride 24, that is

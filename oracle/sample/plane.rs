@@ -2,6 +2,7 @@
 
 use crate::ask::Reference;
 use crate::random::Random;
+use crate::summary::Row;
 
 pub const SHAPES: [&str; 8] =
     ["1x1", "1xN", "Nx1", "narrow", "176x144", "wide stride", "longer", "large"];
@@ -19,6 +20,8 @@ pub struct Plane {
     height: usize,
     stride: usize,
     len: usize,
+    /// The largest sample lent, which is within a number of bits or above it.
+    pub largest: u8,
     store: Vec<u8>,
     before: Vec<u8>,
 }
@@ -34,8 +37,9 @@ impl Plane {
         };
         let len = (height - 1) * stride + width + surplus;
         let store = contents(len + 2 * MARGIN, random);
+        let largest = store[MARGIN..MARGIN + len].iter().copied().max().unwrap_or(0);
         let before = store.clone();
-        Plane { shape, width, height, stride, len, store, before }
+        Plane { shape, width, height, stride, len, largest, store, before }
     }
 
     pub fn reference(&self) -> Reference<'_> {
@@ -43,14 +47,28 @@ impl Plane {
         Reference { samples, width: self.width, height: self.height, stride: self.stride }
     }
 
-    /// The largest sample lent, which is within a number of bits or above it.
-    pub fn largest(&self) -> u8 {
-        self.reference().samples.iter().copied().max().unwrap_or(0)
-    }
-
     /// The samples are lent for reading: no call may change them.
     pub fn unchanged(&self) -> bool {
         self.store == self.before
+    }
+}
+
+const CALLS_PER_PLANE: usize = 250;
+
+/// So many valid calls, some on each of many planes.
+pub fn calls(
+    count: usize,
+    row: &mut Row,
+    random: &mut Random,
+    mut call: impl FnMut(&Plane, &mut Row, &mut Random),
+) {
+    for turn in 0..count.div_ceil(CALLS_PER_PLANE) {
+        let plane = Plane::random(turn, random);
+        let left = count - turn * CALLS_PER_PLANE;
+        for _ in 0..left.min(CALLS_PER_PLANE) {
+            call(&plane, row, random);
+        }
+        row.unchanged(plane.unchanged());
     }
 }
 

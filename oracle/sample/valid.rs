@@ -5,13 +5,7 @@ use super::plane::Plane;
 use crate::ask::Block;
 use crate::random::Random;
 
-/// `largest` is the largest sample of the plane.
-pub fn call<'a>(
-    function: Function,
-    plane: &'a Plane,
-    largest: u8,
-    random: &mut Random,
-) -> Call<'a> {
+pub fn call<'a>(function: Function, plane: &'a Plane, random: &mut Random) -> Call<'a> {
     let reference = plane.reference();
     let (block_w, block_h) = (random.pick(&[8, 16]), random.pick(&[8, 16]));
     let across = random.pick(&MANNERS);
@@ -27,7 +21,7 @@ pub fn call<'a>(
         function,
         reference,
         block: Block { mv_x, mv_y, origin_x, origin_y, block_w, block_h, rounding },
-        bits_per_pixel: bits_per_pixel(largest, random),
+        bits_per_pixel: bits_per_pixel(plane.largest, random),
         out_len: block_w * block_h,
     }
 }

@@ -3,6 +3,7 @@
 
 use super::call::{Answer, Call};
 use crate::guard::{held, Lent};
+use crate::macroblock::lent::lines;
 
 /// Holds the library to `reply`: 0 with the original's answer, which is handed back, or a refusal
 /// with nothing written.
@@ -22,17 +23,8 @@ pub fn check(call: &Call, reply: u8, salt: u8) -> Result<Answer, String> {
         text += &format!("the original: {:?} {:?}\n", wanted.vectors, wanted.sums);
         text += &format!("the library: {:?} {:?}\n", vectors.contents(), sums.contents());
         let (source, reference) = (&call.search.source, &call.search.reference);
-        text += &rows("source", source.samples, source.width);
-        text += &rows("reference", reference.samples, reference.stride);
+        text += &lines("source", source.samples, source.width);
+        text += &lines("reference", reference.samples, reference.stride);
     }
     Err(text)
-}
-
-fn rows(title: &str, bytes: &[u8], width: usize) -> String {
-    let mut text = format!("{title}:\n");
-    for row in bytes.chunks(width) {
-        let words: Vec<String> = row.iter().map(|b| b.to_string()).collect();
-        text += &format!("  {}\n", words.join(" "));
-    }
-    text
 }

@@ -37,7 +37,7 @@ impl Coverage {
         Ok(())
     }
 
-    pub fn finish(self) -> Result<usize, String> {
+    pub fn finish(self) -> Result<(), String> {
         self.counted.finish()
     }
 }

@@ -4,15 +4,12 @@
 use super::call::{Call, Function};
 use super::refusal;
 use crate::ask::{Reference, Search, Source};
-use crate::damage::{bits, cut, fcode, geometry, mode, place, shorten, sides};
+use crate::damage::{bits, choose, cut, fcode, geometry, mode, place, shorten, sides};
 use crate::random::Random;
-
-/// Room for every picture used here, too large ones of bad sides included.
-pub const STORE: usize = 1 << 17;
 
 pub fn call<'a>(function: Function, store: &'a [u8], random: &mut Random) -> Call<'a> {
     let mut call = sound(function, store, random);
-    for number in choose(function, random) {
+    for number in choose(refusal::numbers(function), random) {
         match number {
             1 => call.search.fcode = fcode(random),
             2 => call.search.mode = mode(random),
@@ -46,16 +43,6 @@ fn sound<'a>(function: Function, samples: &'a [u8], random: &mut Random) -> Call
     let (low, high) = refusal::range(fcode);
     let search = Search { source, column, row, reference, mode, bits_per_pixel, fcode };
     Call::new(function, search, (random.int(low, high), random.int(low, high)))
-}
-
-/// What is to be wrong. Of 2 and 3 only one can be.
-fn choose(function: Function, random: &mut Random) -> Vec<u8> {
-    let mut numbers = refusal::numbers(function).to_vec();
-    let always = random.pick(&numbers);
-    let other = if always == 3 || (always != 2 && random.chance(50)) { 2 } else { 3 };
-    let share = random.pick(&[0, 10, 40]);
-    numbers.retain(|&n| n == always || (n != other && random.chance(share)));
-    numbers
 }
 
 /// One or both parts of the seed beyond the range.

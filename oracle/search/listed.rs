@@ -5,6 +5,7 @@ use super::call::{Answer, Call, Function};
 use super::check::check;
 use super::refusal;
 use crate::ask::{Reference, Search, Source};
+use crate::damage::by_hand;
 use crate::random::Random;
 
 type Case = (&'static str, u8, fn(&mut Call));
@@ -16,16 +17,13 @@ pub fn compare(function: Function) -> Result<usize, String> {
     Random::new(1).fill(&mut store);
     let own = if function == Function::Four { FOUR } else { ONE };
     let lists = [MODES, REFERENCE, SOURCE, PLACES, ORDER, own];
-    for &(name, reply, change) in lists.iter().copied().flatten() {
+    let all = lists.iter().copied().flatten().map(|&(name, reply, change)| {
         let mut call = sound(function, &store);
         change(&mut call);
-        let first = refusal::reasons(&call).first().copied().unwrap_or(0);
-        if first != reply {
-            return Err(format!("{name}: listed as {reply}, worked out as {first}\n{call}"));
-        }
-        check(&call, reply, 0xA5).map_err(|text| format!("{name}\n{text}"))?;
-    }
-    Ok(1 + lists.iter().map(|list| list.len()).sum::<usize>())
+        (name, reply, call)
+    });
+    let found = by_hand(all, refusal::reasons, |call, reply| check(call, reply, 0xA5).map(|_| ()));
+    found.map(|cases| 1 + cases)
 }
 
 /// Every sample 100: vectors and sums 0.

@@ -33,7 +33,7 @@ impl<'a> Sums<'a> {
     }
 
     /// Of a vector, the block being cut from the prediction of the whole macroblock.
-    pub fn from_large_copy(&mut self, at: (i32, i32)) -> u32 {
+    pub fn by_large_copy(&mut self, at: (i32, i32)) -> u32 {
         let Place { samples, reference, x, y, mode, .. } = self.place;
         let motion = PvopMbMotion::OneMv(MotionVector { x: at.0, y: at.1 });
         let predicted = predict_luma_macroblock(motion, reference, *x, *y, 0, *mode);

@@ -185,7 +185,7 @@ impl Walk<'_, '_> {
 
     fn vector_sum(&mut self, at: (i32, i32)) -> u32 {
         match self.form {
-            Form::LargeCopies => self.sums.from_large_copy(at),
+            Form::LargeCopies => self.sums.by_large_copy(at),
             _ => self.sums.vector(at),
         }
     }

@@ -3,6 +3,7 @@
 
 use crate::fdct;
 use crate::guard::Lent;
+use crate::macroblock::lent::lines;
 use hencouch::raw;
 
 /// Holds the library to `reply`: 0 with the original's coefficients, which are handed back, or a
@@ -24,7 +25,7 @@ pub fn check(residual: &[i32], out_len: usize, reply: u8, salt: u8) -> Result<Ve
     } else {
         return same_block(residual, lent.contents());
     };
-    Err(format!("MISMATCH: {found}\nout_len: {out_len}\n{}", rows("residual", residual)))
+    Err(format!("MISMATCH: {found}\nout_len: {out_len}\n{}", lines("residual", residual, 8)))
 }
 
 fn same_block(residual: &[i32], got: &[i32]) -> Result<Vec<i32>, String> {
@@ -33,9 +34,9 @@ fn same_block(residual: &[i32], got: &[i32]) -> Result<Vec<i32>, String> {
         return Ok(wanted);
     };
     let found = format!("coefficient {at} is {}, wanted {}", got[at], wanted[at]);
-    let residual = rows("residual", residual);
-    let wanted = rows("the original's coefficients", &wanted);
-    let got = rows("the library's coefficients", got);
+    let residual = lines("residual", residual, 8);
+    let wanted = lines("the original's coefficients", &wanted, 8);
+    let got = lines("the library's coefficients", got, 8);
     Err(format!("MISMATCH: {found}\n{residual}{wanted}{got}"))
 }
 
@@ -46,13 +47,4 @@ fn ask_original(residual: &[i32]) -> Vec<i32> {
         samples[k / 8][k % 8] = number;
     }
     fdct::forward_dct_8x8(&samples, 8).concat()
-}
-
-fn rows(title: &str, numbers: &[i32]) -> String {
-    let mut text = format!("{title}:\n");
-    for row in numbers.chunks(8) {
-        let words: Vec<String> = row.iter().map(|n| n.to_string()).collect();
-        text += &format!("  {}\n", words.join(" "));
-    }
-    text
 }

@@ -2,17 +2,10 @@
 
 use super::block::Kind;
 use super::NAME;
-use std::collections::{BTreeMap, BTreeSet};
+use std::collections::BTreeMap;
 
 /// A run of at least this many calls has to cover everything that is counted.
 const ENOUGH: usize = 100_000;
-
-fn complete(calls: usize, all: bool, sort: &str) -> Result<(), String> {
-    if calls >= ENOUGH && !all {
-        return Err(format!("{NAME}: the {sort} calls left something uncovered"));
-    }
-    Ok(())
-}
 
 #[derive(Default)]
 pub struct Valid {
@@ -47,7 +40,10 @@ impl Valid {
         let all = self.kinds.len() == Kind::ALL.len()
             && self.ties > 0
             && (self.least, self.greatest) == (-2040, 2040);
-        complete(self.calls, all, "valid")
+        if self.calls >= ENOUGH && !all {
+            return Err(format!("{NAME}: the valid calls left something uncovered"));
+        }
+        Ok(())
     }
 }
 
@@ -61,32 +57,4 @@ fn has_tie(residual: &[i32]) -> bool {
         let sum: i32 = terms.map(|(k, n)| n * sign(k / 8, v) * sign(k % 8, u)).sum();
         sum.rem_euclid(8) == 4
     })
-}
-
-#[derive(Default)]
-pub struct Refused {
-    replies: BTreeMap<u8, usize>,
-    /// All that was wrong with a call at once.
-    sorts: BTreeSet<Vec<u8>>,
-}
-
-impl Refused {
-    pub fn count(&mut self, reasons: &[u8]) {
-        *self.replies.entry(reasons[0]).or_default() += 1;
-        self.sorts.insert(reasons.to_vec());
-    }
-
-    pub fn print(&self) {
-        let words: Vec<String> = self.replies.iter().map(|(r, n)| format!("{r} {n}")).collect();
-        println!("{NAME}: {} refusals equal: {}", self.calls(), words.join(", "));
-    }
-
-    fn calls(&self) -> usize {
-        self.replies.values().sum()
-    }
-
-    /// A long run has each number alone, and the first before the other.
-    pub fn complete(&self) -> Result<(), String> {
-        complete(self.calls(), self.sorts.len() == 3, "damaged")
-    }
 }

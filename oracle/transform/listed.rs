@@ -1,4 +1,4 @@
-//! Calls made by hand: document 01's example, the two blocks that tell other roundings apart, each
+//! Calls made by hand: the rules' example, the two blocks that tell other roundings apart, each
 //! bound on both sides, and the order of the refusals. What is wanted is written here and not
 //! worked out.
 

@@ -138,7 +138,7 @@ pub(crate) fn never_refused(reply: u8) {
 mod tests {
     use super::*;
 
-    /// Document 01's two lists.
+    /// The two lists.
     const NUMBERS: [u8; 17] = [1, 2, 3, 4, 5, 6, 7, 8, 9, 10, 11, 12, 13, 14, 21, 22, 23];
 
     #[test]

@@ -46,7 +46,7 @@ fn in_raw() -> Vec<Declared> {
         .collect()
 }
 
-/// As the library's own functions have them, which call the bits per pixel by document 01's `bpp`.
+/// As the library's own functions have them, which call the bits per pixel `bpp`.
 fn in_library() -> BTreeMap<String, String> {
     let folder = Path::new(REPOSITORY).join("crates/hencouch/src");
     let mut all = BTreeMap::new();

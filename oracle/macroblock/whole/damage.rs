@@ -2,22 +2,11 @@
 //! which the refusals are looked at shows.
 
 use super::call::Call;
-use super::refusal::NUMBERS;
 use crate::ask::{Coding, Macroblock, Prediction, Quantising, Reference, Search, Source};
 use crate::damage::{bits, cut, fcode, geometry, mode, place, quantiser, scan, sides};
 use crate::macroblock::planes::Planes;
 use crate::macroblock::residual::{lengths, shorten};
 use crate::random::Random;
-
-/// What is to be wrong. Of 2 and 3 only one can be.
-pub fn choose(random: &mut Random) -> Vec<u8> {
-    let mut numbers = NUMBERS.to_vec();
-    let always = random.pick(&numbers);
-    let other = if always == 3 || (always != 2 && random.chance(50)) { 2 } else { 3 };
-    let share = random.pick(&[0, 10, 40]);
-    numbers.retain(|&n| n == always || (n != other && random.chance(share)));
-    numbers
-}
 
 /// A matrix: with a zero for 11, whatever its length; at times of another length for 12.
 pub fn weights(numbers: &[u8], random: &mut Random) -> Vec<u8> {

@@ -65,7 +65,7 @@ pub fn of(call: &Call, still: &Still, kind: Kind, answer: &Answer) -> Vec<Mark> 
     all.push((PREDICTIONS, format!("{kind:?}")));
     let quantisers = vec![
         ("1", q.quantiser == 1),
-        ("even", q.quantiser % 2 == 0),
+        ("even", q.quantiser.is_multiple_of(2)),
         ("odd above 1", q.quantiser % 2 == 1 && q.quantiser > 1),
         ("31", q.quantiser == 31),
     ];
