@@ -43,7 +43,7 @@ pub fn write_count(told: Events, count: &mut u8) -> u8
 {
     let reply = told.reply;
     match reply {
-        Reply::Refused(why) => refusal::number(why),
+        Reply::Refused(reason) => refusal::number(reason),
         Reply::Done => {
             *count = told.count;
             0
