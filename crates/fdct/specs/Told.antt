@@ -1,10 +1,11 @@
 -- Told, not believed: how the code arranges a block, so that eight lines are transformed side by side, and cuts by the sign.
 use Prim.Native.Nat.{ℕ, _+_, _*_, _/_, _%_, min}
-use mathlib.Core.Bool.{Bool, true, false}
+use mathlib.Core.Bool.{Bool, true, false, cond}
 use mathlib.Core.List.{List}
 use lib.IntN.{ℤ, pos, negℤ}
-use lib.Ieee.{Float, nan}
+use lib.Ieee.{Float, nan, fin, binary64, add, sub, lt, le, eq, neg}
 use lib.ListN.{getD}
+use Rattle.fdct.specs.Double.{zeroDouble, halfDouble, oneDouble}
 use Rattle.fdct.specs.Line.{fdct1d}
 
 -- the entries of a list, by their places
@@ -27,3 +28,34 @@ passedAt block j u = fdct1d (columnOf block j) u
 abbrev pub cutSize : Bool → ℕ → ℤ
 cutSize false n = pos (min n 2047)
 cutSize true n = negℤ (pos (min n 2048))
+
+-- x without its sign
+abbrev pub sized : Float → Float
+sized x = cond (lt x zeroDouble) (neg x) x
+
+-- x, and 0 for a NaN; then at most 2,047; then at least -2,048
+abbrev pub known : Float → Float
+known x = cond (eq x x) x zeroDouble
+
+abbrev pub highest : Float
+highest = fin false 2047 (pos 0)
+
+abbrev pub lowest : Float
+lowest = fin true 1 (pos 11)
+
+abbrev pub notAbove : Float → Float
+notAbove x = cond (lt x highest) x highest
+
+abbrev pub notBelow : Float → Float
+notBelow x = cond (lt lowest x) x lowest
+
+-- 2 ^ 52 added and taken away
+abbrev pub ground : Float
+ground = fin false 1 (pos 52)
+
+abbrev pub rested : Float → Float
+rested x = sub binary64 (add binary64 x ground) ground
+
+-- 1 where x lies a half or more above t
+abbrev pub carried : Float → Float → Float
+carried t x = cond (le (add binary64 t halfDouble) x) oneDouble zeroDouble
