@@ -3,7 +3,7 @@
 use mathlib.Core.Path.{_≡_, refl, sym, ap, ap₂, _∙_, subst}
 use mathlib.Core.Bool.{Bool, true, false, _&&_, _||_, true≢false}
 use Prim.Native.Nat.{ℕ, zero, suc, _+_, _-_, _*_, _/_, _%_, _^_, _<_, _≤_, compare, Ordering, Ordering·lt, Ordering·eq, Ordering·gt}
-use native.Mathlib.Nat.{le-trans, le-of-eq, le-antisymm, lt-of-not-le, not-le-of-lt, lt-of-lt-of-le, lt-of-le-of-lt, le-of-suc-le-suc}
+use native.Mathlib.Nat.{le-trans, le-of-eq, lt-of-not-le, not-le-of-lt, lt-of-lt-of-le, lt-of-le-of-lt, le-of-suc-le-suc}
 use native.Mathlib.Nat.{mul-assoc, mul-one, mul-right-comm, mul-pos, mod-lt, div-add-mod', add-mul, suc-mul}
 use native.Mathlib.Nat.{mul-le-mul-right, mul-lt-mul-of-pos-right, lt-of-mul-lt-mul-right, le-of-mul-le-mul-right, eq-of-mul-eq-mul-right}
 use native.Mathlib.Nat.{div-lt-iff-lt-mul, le-div-iff-mul-le}
@@ -22,6 +22,7 @@ use lib.Ieee.Order.{le-of-values}
 use lib.Ieee.Scale.{round-same}
 use lib.Ieee.Back.{round-whole, positive-back, whole-unique}
 use Rattle.basis.proofs.Case.{then, else}
+use Rattle.basis.proofs.Division.{quotient-is}
 use Rattle.fdct.specs.Double.{zeroDouble, oneDouble, halfDouble}
 use Rattle.fdct.specs.Rounding.{nearestUp, roundedSize}
 use Rattle.fdct.specs.Told.{ground, rested, carried}
@@ -195,17 +196,11 @@ missed u a c false m e A C v z t =
     T-true {b = false} t = absurd t
 
 -- ---- the nearest, a half upward
-quotient : (n d q : ℕ) → 0 < d → q * d ≤ n → n < (q + 1) * d → n / d ≡ q
-quotient n d q D lo hi =
-    let high : n / d < q + 1 = div-lt-iff-lt-mul D .1 hi in
-    let low : q ≤ n / d = le-div-iff-mul-le D .1 lo in
-    omega arith
-
 upward : (x d j : ℕ) → 0 < d → Halfway (j * d) x d → (2 * j + 1) * d ≤ x * 2 → nearestUp x d ≡ j + 1
-upward x d j D h k = quotient (2 * x + d) (2 * d) (j + 1) (omega arith) (omega (arith, h .0, h .1)) (omega (arith, h .0, h .1))
+upward x d j D h k = quotient-is (2 * x + d) (2 * d) (j + 1) (omega arith) (omega (arith, h .0, h .1)) (omega (arith, h .0, h .1))
 
 downward : (x d j : ℕ) → 0 < d → Halfway (j * d) x d → x * 2 < (2 * j + 1) * d → nearestUp x d ≡ j
-downward x d j D h k = quotient (2 * x + d) (2 * d) j (omega arith) (omega (arith, h .0, h .1)) (omega (arith, h .0, h .1))
+downward x d j D h k = quotient-is (2 * x + d) (2 * d) j (omega arith) (omega (arith, h .0, h .1)) (omega (arith, h .0, h .1))
 
 -- ---- the whole: x is not below 0, and below 4096
 record Rests (s : Bool) (m : ℕ) (e : ℤ) : Type 0 where
