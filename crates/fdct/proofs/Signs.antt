@@ -1,34 +1,26 @@
--- What the tests of a double against 0, 4096 and itself tell of its roundedSize and its coefficient. Assumes nothing.
+-- What the tests of a double against 0 and 4096 tell of its roundedSize and its coefficient. Assumes nothing.
 use mathlib.Core.Path.{_≡_, refl, sym, ap, _∙_, subst}
 use mathlib.Core.Logic.{inl, inr}
 use mathlib.Core.Bool.{Bool, true, false, cond, not, _&&_, _||_, true≢false}
 use Prim.Native.Nat.{ℕ, _+_, _*_, _<_, _≤_, min}
-use native.Mathlib.Nat.{le-refl, eq-or-lt-of-le, le-div-iff-mul-le, div-eq-of-lt}
+use native.Mathlib.Nat.{le-refl, eq-or-lt-of-le, div-eq-of-lt}
 use native.Mathlib.Omega.{arith}
 use borrow.Author.Tests.{ltb-true, ltb-false, lt-ltb, le-ltb, eq-eqb}
 use lib.Dec.{T, ltb, eqb}
 use lib.IntN.{pos, negℤ}
-use lib.Ieee.{Float, nan, inf, fin, up, down, lt, le, eq, ne, neg}
+use lib.Ieee.{Float, nan, inf, fin, up, down, lt, le, neg}
 use lib.Ieee.Fits.{down-pos}
-use lib.Ieee.Compare.{differs-from-itself}
 use Rattle.fdct.specs.Double.{zeroDouble}
 use Rattle.fdct.specs.Rounding.{nearestUp, roundedSize, negative, coefficientOf}
-use Rattle.fdct.specs.Told.{cutSize}
+use Rattle.fdct.specs.Told.{cutSize, sized}
 use Rattle.fdct.proofs.Cuts.{cut-size}
 
 -- 4096
 abbrev pub top : Float
 top = fin false 1 (pos 12)
 
--- x without its sign, as the code has it
-abbrev pub sized : Float → Float
-sized x = cond (lt x zeroDouble) (neg x) x
-
-none : (n d : ℕ) → 0 < d → n ≡ 0 → nearestUp n d ≡ 0
+pub none : (n d : ℕ) → 0 < d → n ≡ 0 → nearestUp n d ≡ 0
 none n d D z = div-eq-of-lt (omega arith)
-
-large : (n d : ℕ) → 0 < d → 4096 * d ≤ n → 4096 ≤ nearestUp n d
-large n d D h = le-div-iff-mul-le {k = 2 * d} {x = 4096} {y = 2 * n + d} (omega arith) .1 (omega arith)
 
 split : (a b : ℕ) → a ≤ b → (ltb a b || (eqb a b && true)) ≡ true
 split a b h = elim (eq-or-lt-of-le h) [
@@ -75,23 +67,6 @@ sized-up x = go (lt x zeroDouble) refl
     go : (b : Bool) → lt x zeroDouble ≡ b → lt (cond b (neg x) x) top ≡ true → le zeroDouble (cond b (neg x) x) ≡ true
     go true t h = turned x t
     go false t h = kept x t h
-
--- ---- past the range, and a NaN
-pub past-top : (x : Float) → eq x x ≡ true → lt (sized x) top ≡ false → 4096 ≤ roundedSize x
-unfolding roundedSize eq neg lt
-past-top nan t h = absurd (true≢false (sym t))
-past-top (inf s) t h = le-refl 4096
-past-top (fin s m e) t h = go s (lt (fin s m e) zeroDouble) h
-  where
-    go : (s b : Bool) → lt (cond b (fin (not s) m e) (fin s m e)) top ≡ false → 4096 ≤ nearestUp (m * up e) (down e)
-    go true true h = let k = ltb-false (m * up e * 1) (4096 * down e) h in large (m * up e) (down e) (down-pos e) (omega arith)
-    go true false h = let D = down-pos e in let k = ltb-false 0 (m * up e * 1 + 4096 * down e) h in absurd (omega arith)
-    go false true h = let D = down-pos e in let k = ltb-false 0 (m * up e * 1 + 4096 * down e) h in absurd (omega arith)
-    go false false h = let k = ltb-false (m * up e * 1) (4096 * down e) h in large (m * up e) (down e) (down-pos e) (omega arith)
-
-pub no-number : (x : Float) → eq x x ≡ false → roundedSize x ≡ 0
-unfolding roundedSize ne
-no-number x t = ap roundedSize (differs-from-itself x (subst (λ (b : Bool). T (not b)) (sym t) tt))
 
 -- ---- the coefficient, from the sign's test and the roundedSize
 cut : (x : Float) → coefficientOf x ≡ cutSize (negative x) (roundedSize x)

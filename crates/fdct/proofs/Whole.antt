@@ -2,7 +2,7 @@
 use Prim.Native.Nat.{ℕ, _+_, _*_, _/_, _%_, _<_}
 use native.Mathlib.Omega.{arith}
 use mathlib.Core.List.{List}
-use mathlib.Core.Path.{_≡_, ap, ap₂, _∙_}
+use mathlib.Core.Path.{_≡_, ap, _∙_}
 use lib.IntN.{ℤ}
 use lib.Ieee.{Float, nan}
 use lib.ListN.{getD}
@@ -10,18 +10,11 @@ use Rattle.basis.specs.Lists.{tabulate, raster}
 use Rattle.basis.proofs.Lists.{getD-tabulate, tabulate-cong, getD-raster}
 use Rattle.fdct.specs.Block.{sample, coefficient, coefficients}
 use Rattle.fdct.specs.Line.{fdct1d}
-use Rattle.fdct.specs.Told.{entries, columnOf, swappedAt, passedAt}
+use Rattle.fdct.specs.Told.{entries, rowOf, columnOf, sampleAt, acrossAt, passedAt}
 use Rattle.fdct.specs.Rounding.{coefficientOf}
-use Rattle.fdct.proofs.Lines.{row-of, column-of, inside, fdct1d-cong}
+use Rattle.fdct.proofs.Lines.{inside, fdct1d-cong}
 
--- row a and column b of a swapped block
-swapped-at : (l : List Float) (f : ℕ → ℕ → Float) (a b : ℕ) → l ≡ tabulate 64 (swappedAt f) → a < 8 → b < 8 → entries l (a * 8 + b) ≡ f b a
-swapped-at l f a b e ha hb =
-    ap (λ (z : List Float). getD z (a * 8 + b) nan) e
-    ∙ getD-tabulate 64 (swappedAt f) (a * 8 + b) nan (inside a b ha hb)
-    ∙ ap₂ f (column-of a b hb) (row-of a b hb)
-
--- row u and column j of a pass
+-- row u and column j of the columns' pass
 passed-at : (l block : List Float) (f : ℕ → Float) (u j : ℕ) → l ≡ raster 8 8 (passedAt (entries block)) → u < 8 → j < 8
     → ((x : ℕ) → x < 8 → columnOf (entries block) j x ≡ f x) → entries l (u * 8 + j) ≡ fdct1d f u
 passed-at l block f u j e hu hj h =
@@ -33,18 +26,19 @@ place : (k : ℕ) → k ≡ k / 8 * 8 + k % 8
 place k = omega arith
 
 module _
-    (r : List ℤ) (block across rows down : List Float)
-    (eb : block ≡ tabulate 64 (swappedAt (sample r)))
-    (ea : across ≡ raster 8 8 (passedAt (entries block)))
-    (er : rows ≡ tabulate 64 (swappedAt (λ y x. entries across (y * 8 + x))))
-    (ed : down ≡ raster 8 8 (passedAt (entries rows))) where
-  rows-at : (y u : ℕ) → y < 8 → u < 8 → columnOf (entries rows) u y ≡ fdct1d (sample r y) u
-  rows-at y u hy hu =
-      swapped-at rows (λ a b. entries across (a * 8 + b)) y u er hy hu
-      ∙ passed-at across block (sample r y) u y ea hu hy (λ x hx. swapped-at block (sample r) x y eb hx hy)
+    (r : List ℤ) (block across down : List Float)
+    (eb : block ≡ tabulate 64 (sampleAt r))
+    (ea : across ≡ raster 8 8 (acrossAt (entries block)))
+    (ed : down ≡ raster 8 8 (passedAt (entries across))) where
+  across-at : (y u : ℕ) → y < 8 → u < 8 → columnOf (entries across) u y ≡ fdct1d (sample r y) u
+  across-at y u hy hu =
+      ap (λ (z : List Float). getD z (y * 8 + u) nan) ea
+      ∙ getD-raster 8 8 (acrossAt (entries block)) u y nan hu hy
+      ∙ fdct1d-cong (rowOf (entries block) y) (sample r y) u
+      (λ x hx. ap (λ (z : List Float). getD z (y * 8 + x) nan) eb ∙ getD-tabulate 64 (sampleAt r) (y * 8 + x) nan (inside y x hy hx))
 
   down-at : (v u : ℕ) → v < 8 → u < 8 → entries down (v * 8 + u) ≡ fdct1d (λ y. fdct1d (sample r y) u) v
-  down-at v u hv hu = passed-at down rows (λ y. fdct1d (sample r y) u) v u ed hv hu (λ y hy. rows-at y u hy hu)
+  down-at v u hv hu = passed-at down across (λ y. fdct1d (sample r y) u) v u ed hv hu (λ y hy. across-at y u hy hu)
 
   pub arranged : tabulate 64 (λ k. coefficientOf (entries down k)) ≡ coefficients r
   unfolding coefficients

@@ -3,8 +3,8 @@ ghost use mathlib.Core.Path.{_≡_};
 ghost use lib.ListN.{length};
 ghost use Rattle.basis.specs.Lists.{tabulate};
 ghost use Rattle.refusal.specs.Reply.{done};
-ghost use Rattle.fdct.specs.Block.{sample, coefficients};
-ghost use Rattle.fdct.specs.Told.{entries, swappedAt};
+ghost use Rattle.fdct.specs.Block.{coefficients};
+ghost use Rattle.fdct.specs.Told.{entries, sampleAt};
 ghost use Rattle.fdct.specs.Reply.{dctReply};
 ghost use Rattle.fdct.specs.Rounding.{coefficientOf};
 use refusal::Refusal;
@@ -25,16 +25,14 @@ fn dct_reply(residual: &[i32], area: usize) -> Reply
     refusal::and_then(length, range)
 }
 
-// The residuals as doubles, with rows and columns swapped.
-fn to_doubles(residual: &[i32]) -> [f64; 64]
-    requires { ⌜ length (now residual) ≡ 64 ⌝ }
-    ensures { λ r. ⌜ r ≡ tabulate 64 (swappedAt (sample (now (residual .entry)))) ⌝ }
+// The residuals as doubles.
+fn to_doubles(residual: &[i32], block: &mut [f64])
+    requires { ⌜ (length (now residual) ≡ 64) × (length (now block) ≡ 64) ⌝ }
+    ensures { λ _. ⌜ now (block .exit) ≡ tabulate 64 (sampleAt (now (residual .entry))) ⌝ }
 {
-    let mut block = [0.0f64; 64];
     for k in 0..64usize {
-        block[k] = residual[k % 8 * 8 + k / 8] as f64;
+        block[k] = residual[k] as f64;
     }
-    block
 }
 
 // The coefficients of the doubles, place by place.
@@ -47,19 +45,20 @@ fn write_out(block: &[f64; 64], out: &mut [i32])
     }
 }
 
-// Rows, then columns. A pass transforms columns, so the block is swapped before each.
+// Rows, then columns. A row is summed by the swapped table, so that the block is never swapped.
 fn transform(residual: &[i32], out: &mut [i32])
     requires { ⌜ (length (now residual) ≡ 64) × (length (now out) ≡ 64) ⌝ }
     ensures { λ _. ⌜ now (out .exit) ≡ coefficients (now (residual .entry)) ⌝ }
 {
-    // A constant array is copied wherever it is read, so it is read once.
-    let table = cosine::TABLE;
-    let block = to_doubles(residual);
+    let mut block = [0.0f64; 64];
+    to_doubles(residual, &mut block);
+    // A constant array is copied wherever it is read, so each is read once.
+    let swapped = cosine::SWAPPED;
     let mut across = [0.0f64; 64];
-    line::fdct_1d(&table, &block, &mut across);
-    let rows = line::swapped(&across);
+    line::fdct_1d_rows(&swapped, &block, &mut across);
+    let table = cosine::TABLE;
     let mut down = [0.0f64; 64];
-    line::fdct_1d(&table, &rows, &mut down);
+    line::fdct_1d_columns(&table, &across, &mut down);
     write_out(&down, out);
 }
 

@@ -1,4 +1,5 @@
 -- Laws that several proofs cite.
+mod Reciprocal
 mod Signs
 mod Storing
 -- And what the crates above cite.

@@ -4,7 +4,7 @@ ghost use mathlib.Core.Path.{_≡_};
 ghost use Prim.Native.Nat.{_-_, _≤_, _<_};
 ghost use lib.IntN.{natAbs};
 ghost use Rattle.quantise.specs.Level.{signed, levelByQuantiser, levelByWeight, inverseSize, inverseByQuantiser};
-ghost use Rattle.quantise.specs.Told.{Weighable};
+ghost use Rattle.quantise.specs.Told.{reciprocalOf, Quantisable, Weighable};
 
 // x moved toward 0 by d, and not past it: less what of it lies within d on either side, which takes no branch on its sign.
 fn toward_zero(x: i32, d: u32) -> i32
@@ -15,12 +15,29 @@ fn toward_zero(x: i32, d: u32) -> i32
     x - basis::clamp(x, 0 - most, most)
 }
 
-pub fn quantise_method2_inter(f: i32, quantiser_scale: u32) -> i32
-    requires { ⌜ (natAbs f ≤ 2048) × (1 ≤ «quantiser_scale») × («quantiser_scale» ≤ 31) ⌝ }
+// a less d, and 0 where d is more.
+fn less(a: u32, d: u32) -> u32
+    ensures { λ r. ⌜ r ≡ a - d ⌝ }
+{
+    if a < d { 0 } else { a - d }
+}
+
+// What a division by d is as a product, in parts of 2^15, rounded up.
+pub fn reciprocal(d: u32) -> u32
+    requires { ⌜ (1 ≤ d) × (d ≤ 31) ⌝ }
+    ensures { λ r. ⌜ r ≡ reciprocalOf d ⌝ }
+{
+    (32767 + d) / d
+}
+
+// Divided by the reciprocal of the quantiser, `by`, so that the levels of a block need no division.
+pub fn quantise_method2_inter(f: i32, quantiser_scale: u32, by: u32) -> i32
+    requires { ⌜ Quantisable f «quantiser_scale» by ⌝ }
     ensures { λ r. ⌜ r ≡ levelByQuantiser «quantiser_scale» f ⌝ }
 {
-    let rest = toward_zero(f, quantiser_scale / 2);
-    basis::clamp(rest / (2 * quantiser_scale) as i32, -2047, 2047)
+    let rest = less(basis::magnitude(f), quantiser_scale / 2);
+    let size = (rest / 2 * by / 32768) as i32;
+    if f < 0 { 0 - size } else { size }
 }
 
 pub fn quantise_method1_inter(f: i32, w: u8, quantiser_scale: u32) -> i32

@@ -71,8 +71,9 @@ fn by_quantiser(coefficients: &[i32], quantiser: u32, weights: &[u8], out: &mut 
     requires { ⌜ quantiseReply (now coefficients) quantiser false (now weights) (length (now out)) ≡ Done ⌝ }
     ensures { λ _. ⌜ now (out .exit) ≡ blockLevels false quantiser (now (weights .entry)) (now (coefficients .entry)) ⌝ }
 {
+    let by = level::reciprocal(quantiser);
     for i in 0..64usize {
-        out[i] = level::quantise_method2_inter(coefficients[i], quantiser);
+        out[i] = level::quantise_method2_inter(coefficients[i], quantiser, by);
     }
 }
 

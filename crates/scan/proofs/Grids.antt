@@ -1,11 +1,12 @@
 -- Each scan grid is a permutation of 0..63, by two computed tests over the table, and what scan and inverse scan make of that.
 -- Assumes nothing.
-use Prim.Native.Nat.{ℕ, _+_, _≤_, _<_}
+use Prim.Native.Nat.{ℕ, zero, suc, _+_, _*_, _/_, _%_, _≤_, _<_}
+use native.Mathlib.Numerals.{add-one}
 use native.Mathlib.Omega.{arith}
 use mathlib.Core.Bool.{Bool, true, false, cond, _&&_}
-use mathlib.Core.List.{List}
+use mathlib.Core.List.{List, []}
 use mathlib.Core.Logic.{_≢_}
-use mathlib.Core.Path.{_≡_, refl, sym, ap, _∙_, subst}
+use mathlib.Core.Path.{_≡_, refl, sym, ap, ap₂, _∙_, subst}
 use lib.Dec.{T, eqb, ltb}
 use lib.IntN.{ℤ, pos}
 use lib.ListN.{length, getD, set, length-set}
@@ -14,6 +15,7 @@ use mir.Facts.{eqb-yes, ltb-yes, and-yes}
 use borrow.Author.Tests.{eqb-true, eqb-false}
 use Rattle.basis.proofs.Lists.{length-tabulate, getD-tabulate, tabulate-cong, tabulate-same}
 use Rattle.scan.specs.Grid.{altHorizontal, altVertical, zigzag, gridOf, entryAt, scanPlaceOf, scanned, unscanned, Permutes, Returns}
+use Rattle.scan.specs.Told.{putRow}
 use Rattle.basis.proofs.Table.{upto, upto-at}
 
 -- the tests: an entry is below 64 and is found where it stands, and each of 0..63 is found where it is the entry
@@ -93,6 +95,41 @@ module _ {g : List (List ℕ)} (w : Permutes g) {xs out : List ℤ} {p : ℕ} (s
       sym (tabulate-same 64 out (pos 0) (s .long))
       ∙ tabulate-cong 64 (λ k. getD out k (pos 0)) (λ k. getD xs (scanPlaceOf g k) (pos 0))
       (λ k l. ap (λ (m : ℕ). getD out m (pos 0)) (sym (w .back k l)) ∙ s .stored (scanPlaceOf g k) (omega (arith, w .place-below k l)))
+
+-- ---- a row at a time
+row-entry : (g : List (List ℕ)) (y x : ℕ) → x < 8 → entryAt g (y * 8 + x) ≡ getD (getD g y []) x 0
+row-entry g y x h =
+    ap₂ (λ (a b : ℕ). getD (getD g a []) b 0)
+    (let row : (y * 8 + x) / 8 ≡ y = omega arith in row) (let column : (y * 8 + x) % 8 ≡ x = omega arith in column)
+
+-- each entry of a permutation's row is one of the 64
+pub row-below : {g : List (List ℕ)} → Permutes g → (y x : ℕ) → y < 8 → x < 8 → getD (getD g y []) x 0 < 64
+row-below {g} w y x hy hx = subst (λ (k : ℕ). k < 64) (row-entry g y x hx) (w .entry-below (y * 8 + x) (omega arith))
+
+pub length-put : (row : List ℕ) (levels : List ℤ) (n : ℕ) (out : List ℤ) → length (putRow row levels n out) ≡ length out
+unfolding putRow
+length-put row levels zero out = refl
+length-put row levels (suc n) out = length-set (putRow row levels n out) (getD row n 0) (getD levels n (pos 0)) ∙ length-put row levels n out
+
+pub put-more : (row : List ℕ) (levels was out : List ℤ) (n : ℕ) (v : ℤ) → out ≡ putRow row levels n was → v ≡ getD levels n (pos 0)
+    → set out (getD row n 0) v ≡ putRow row levels (n + 1) was
+unfolding putRow
+put-more row levels was out n v e f =
+    ap₂ (λ (o : List ℤ) (z : ℤ). set o (getD row n 0) z) e f ∙ ap (λ (m : ℕ). putRow row levels m was) (sym (add-one n))
+
+-- n turns of row y, whose levels stand in a part
+pub scatter-row : (g : List (List ℕ)) (xs out part : List ℤ) (y n : ℕ) → Permutes g → y < 8 → n ≤ 8 → Scattered g xs out (y * 8)
+    → ((x : ℕ) → x < 8 → getD part x (pos 0) ≡ getD xs (y * 8 + x) (pos 0)) → Scattered g xs (putRow (getD g y []) part n out) (y * 8 + n)
+unfolding putRow
+scatter-row g xs out part y zero w hy hn s e = subst (Scattered g xs out) (let p : y * 8 ≡ y * 8 + 0 = omega arith in p) s
+scatter-row g xs out part y (suc n) w hy hn s e =
+    let before = scatter-row g xs out part y n w hy (omega arith) s e in
+    let more = scatter-more w before (omega arith) in
+    let at = row-entry g y n (omega arith) in
+    let was = putRow (getD g y []) part n out in
+    subst (Scattered g xs (set was (getD (getD g y []) n 0) (getD part n (pos 0)))) (let p : y * 8 + n + 1 ≡ y * 8 + suc n = omega arith in p)
+    (subst (λ (z : ℤ). Scattered g xs (set was (getD (getD g y []) n 0) z) (y * 8 + n + 1)) (sym (e n (omega arith)))
+    (subst (λ (k : ℕ). Scattered g xs (set was k (getD xs (y * 8 + n) (pos 0))) (y * 8 + n + 1)) at more))
 
 pub length-scanned : (g : List (List ℕ)) (levels : List ℤ) → length (scanned g levels) ≡ 64
 unfolding scanned

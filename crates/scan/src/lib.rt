@@ -6,6 +6,7 @@ ghost use Rattle.refusal.specs.Reply.{done};
 ghost use Rattle.scan.specs.Event.{lastsArea, runsArea, levelsArea};
 ghost use Rattle.scan.specs.Grid.{gridOf, interScan, scanned, unscanned};
 ghost use Rattle.scan.specs.Read.{ReadsBack};
+ghost use Rattle.scan.specs.Told.{putRow, RowNeeds};
 ghost use Rattle.scan.specs.Reply.{scanReply, eventsReply, eventsAnswer};
 use refusal::Refusal;
 use refusal::Reply;
@@ -81,15 +82,28 @@ fn scan_reply(levels: &[i32], scan: u32, area: usize) -> Reply
     refusal::unless(sizes, Refusal::Length, range)
 }
 
+// The levels of a row at the places that a grid's row names: row by row, so that eight are stored in a run.
+fn scan_row(row: [u8; 8], levels: &[i32], out: &mut [i32])
+    requires { ⌜ RowNeeds row (length (now levels)) (length (now out)) ⌝ }
+    ensures { λ _. ⌜ now (out .exit) ≡ putRow row (now (levels .entry)) 8 (now (out .entry)) ⌝ }
+{
+    for x in 0..8usize {
+        let k = row[x] as usize;
+        out[k] = levels[x];
+    }
+}
+
 fn scan_ready(levels: &[i32], scan: u32, out: &mut [i32])
     requires { ⌜ scanReply (now levels) scan (length (now out)) ≡ Done ⌝ }
     ensures { λ _. ⌜ now (out .exit) ≡ scanned (gridOf scan) (now (levels .entry)) ⌝ }
 {
     // A constant array is copied wherever it is read, so it is read once.
     let grid = scan_grid(scan);
-    for p in 0..64usize {
-        let k = grid[p / 8][p % 8] as usize;
-        out[k] = levels[p];
+    for y in 0..8usize {
+        let from = y * 8;
+        let to = from + 8;
+        let row = grid[y];
+        scan_row(row, &levels[from..to], out);
     }
 }
 

@@ -5,19 +5,19 @@ use native.Mathlib.Omega.{arith}
 use mathlib.Core.Path.{_≡_, refl, ap, _∙_}
 use lib.Ieee.{ofBits}
 use Rattle.basis.specs.Lists.{tabulate}
-use Rattle.fdct.specs.Line.{weightedSum}
+use Rattle.fdct.specs.Told.{dot}
 use Rattle.fdct.proofs.Lines.{sumsOf, sums-more}
 use Rattle.fdct.proofs.line.weighted_sums.Statement.{statement}
 use Rattle.fdct.proofs.line.weighted_sums.Tie as tie
 
 abbrev Inv-loop : tie.InvT-loop
-Inv-loop table block u sums₀ x₀ sums x = (x ≤ 8) × (sums ≡ sumsOf block u x)
+Inv-loop table block u sums₀ x₀ sums x = (x ≤ 8) × (sums ≡ sumsOf table block u x)
 
 abbrev μ-loop : tie.MeasureT-loop
 μ-loop table block u sums₀ x₀ sums x = 8 - x
 
 loop-holds : tie.Need-loop-holds Inv-loop μ-loop
-unfolding tabulate weightedSum ofBits
+unfolding tabulate dot ofBits
 loop-holds c = (search needs, refl)
 
 mul-add-row : tie.Need-mul-add-row Inv-loop μ-loop
@@ -45,17 +45,14 @@ loop-again : tie.Need-loop-again Inv-loop μ-loop
 loop-again c =
     let l = c .before .before .before .before .loop in
     let s = c .before .before .before .before .before in
-    let more = c .before .before .before .loop-test .taken in (
-      search needs,
-      sums-more (s .args .table .now) (s .args .block .now) (l .sums) _ (s .args .u) (l .x) (s .pre .1) (s .pre .0) more (l .inv .1) (c .add-row .ensures),
-    )
+    (search needs, sums-more (s .args .table .now) (s .args .block .now) (l .sums) _ (s .args .u) (l .x) (l .inv .1) (c .add-row .ensures))
 
 returns : tie.Need-returns Inv-loop μ-loop
 returns c =
     let l = c .before .loop in
     let s = c .before .before in
     let end : l .x ≡ 8 = omega arith in
-    l .inv .1 ∙ ap (λ (x : ℕ). sumsOf (s .args .block .now) (s .args .u) x) end
+    l .inv .1 ∙ ap (λ (x : ℕ). sumsOf (s .args .table .now) (s .args .block .now) (s .args .u) x) end
 
 pub weighted-sums-spec : {M : Type 1} → statement M
 weighted-sums-spec =

@@ -1,34 +1,34 @@
--- `fdct::rounding::nearest_up` meets its contract: `proofs/Halves.antt` has what it asks. Assumes nothing.
-use mathlib.Core.Path.{_≡_, sym, ap, _∙_, subst}
-use Prim.Native.Nat.{ℕ, _+_, _/_, _<_, _≤_}
-use native.Mathlib.Omega.{arith}
+-- `fdct::rounding::nearest_up` meets its contract: `proofs/Wholes.antt` has what it asks. Assumes nothing.
+use borrow.Author.Needs.{needs}
+use mathlib.Core.Path.{_≡_, sym, ap, ap₂, _∙_, subst}
 use lib.Dec.{T}
-use lib.Ieee.{ofBits}
-use Rattle.fdct.specs.Rounding.{roundedSize}
-use Rattle.fdct.proofs.Halves.{RoundsByHalves, rounds-by-halves}
+use lib.Ieee.{Float, binary64, add, inSigned, toSigned}
+use lib.Ieee.Casts.{toSigned-in}
+use Rattle.basis.proofs.Signed.{of-bits}
+use Rattle.fdct.specs.Told.{carried}
+use Rattle.fdct.proofs.Wholes.{cast-is}
 use Rattle.fdct.proofs.rounding.nearest_up.Statement.{statement}
 use Rattle.fdct.proofs.rounding.nearest_up.Tie as tie
 
-facts : (c : tie.Start) → RoundsByHalves (c .args .x)
-facts c = rounds-by-halves (c .args .x) (subst T (sym (c .good .0 .1)) tt) (c .pre .0) (c .pre .1)
+rested-requires : tie.Need-rested-requires
+rested-requires c κs = search needs
 
-truncating-f64-to-u64-requires : tie.Need-truncating-f64-to-u64-requires
-unfolding ofBits
-truncating-f64-to-u64-requires c κs = (facts c .above, facts c .below)
+carried-requires : tie.Need-carried-requires
+carried-requires c κs = search needs
 
-add-result : tie.Need-add-result
-unfolding ofBits
-add-result c =
-    let b : c .truncating-f64-to-u64 .result < 8192 =
-    subst (λ (k : ℕ). k < 8192) (sym (c .truncating-f64-to-u64 .ensures)) (facts (c .before) .small) in
-    record { fits = omega arith }
+float-to-int-result : tie.Need-float-to-int-result
+float-to-int-result c =
+    let x = c .before .before .before .args .x in
+    let t = c .before .before .rested .ensures in
+    let sum = ap₂ (add binary64) t (c .before .carried .ensures ∙ ap (λ (r : Float). carried r x) t) in
+    subst (λ (y : Float). T (inSigned binary64 31 y)) (sym sum) (cast-is x (c .before .before .before .pre .0) (c .before .before .before .pre .1) .castable)
 
 returns : tie.Need-returns
-unfolding ofBits
 returns c =
-    let r : (c .truncating-f64-to-u64 .result + 1) / 2 ≡ roundedSize (c .before .args .x) =
-    ap (λ (k : ℕ). (k + 1) / 2) (c .truncating-f64-to-u64 .ensures) ∙ facts (c .before) .is in
-    (r, subst (λ (k : ℕ). k ≤ 4096) (sym r) (facts (c .before) .capped))
+    let x = c .before .before .before .args .x in
+    let t = c .before .before .rested .ensures in
+    let sum = ap₂ (add binary64) t (c .before .carried .ensures ∙ ap (λ (r : Float). carried r x) t) in
+    of-bits _ (toSigned-in 31 _) ∙ ap (toSigned 31) sum ∙ cast-is x (c .before .before .before .pre .0) (c .before .before .before .pre .1) .is
 
 pub nearest-up-spec : {M : Type 1} → statement M
-nearest-up-spec = tie.close (tie.spec truncating-f64-to-u64-requires add-result returns)
+nearest-up-spec = tie.close (tie.spec rested-requires carried-requires float-to-int-result returns)

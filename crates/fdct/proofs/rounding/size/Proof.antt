@@ -1,17 +1,17 @@
 -- `fdct::rounding::size` meets its contract. Assumes nothing.
-use mathlib.Core.Path.{sym, ap}
-use mathlib.Core.Bool.{Bool, cond}
-use lib.Ieee.{ofBits, neg}
+use mathlib.Core.Path.{sym}
+use lib.Ieee.{ofBits}
+use Rattle.basis.proofs.Case.{then, else}
 use Rattle.fdct.proofs.rounding.size.Statement.{statement}
 use Rattle.fdct.proofs.rounding.size.Tie as tie
 
 returns : tie.Need-returns
 unfolding ofBits
-returns c = sym (ap (λ (t : Bool). cond t (neg (c .before .args .x)) (c .before .args .x)) (c .if1 .taken))
+returns c = sym (then _ _ _ (c .if1 .taken))
 
 returns-2 : tie.Need-returns-2
 unfolding ofBits
-returns-2 c = sym (ap (λ (t : Bool). cond t (neg (c .before .args .x)) (c .before .args .x)) (c .if1 .left))
+returns-2 c = sym (else _ _ _ (c .if1 .left))
 
 pub size-spec : {M : Type 1} → statement M
 size-spec = tie.close (tie.spec returns returns-2)

@@ -1,4 +1,4 @@
--- `fdct::line::fdct_1d` meets its contract. Assumes nothing.
+-- `fdct::line::fdct_1d_columns` meets its contract. Assumes nothing.
 use borrow.Author.Needs.{needs}
 use Prim.Native.Nat.{ℕ, _-_, _*_, _≤_}
 use native.Mathlib.Omega.{arith}
@@ -12,8 +12,8 @@ use Rattle.basis.proofs.Slices.{part-length}
 use Rattle.fdct.specs.Double.{halfDouble}
 use Rattle.fdct.specs.Told.{entries, passedAt}
 use Rattle.fdct.proofs.Lines.{row-is}
-use Rattle.fdct.proofs.line.fdct_1d.Statement.{statement}
-use Rattle.fdct.proofs.line.fdct_1d.Tie as tie
+use Rattle.fdct.proofs.line.fdct_1d_columns.Statement.{statement}
+use Rattle.fdct.proofs.line.fdct_1d_columns.Tie as tie
 
 -- row u of the pass
 abbrev passRow : List Float → ℕ → List Float
@@ -74,7 +74,7 @@ loop-again c =
       omega arith,
       omega arith,
       laid-put 8 (passRow (s .args .block .now)) (λ j. length-tabulate _ _) (l .u) _ (l .out) _ (l .inv .3)
-          (row-is (s .args .block .now) (sums .result) _ (l .u) _
+          (row-is (s .args .table .now) (s .args .block .now) (sums .result) _ (l .u) _ (s .pre .0) (omega arith)
           (sums .ensures) (ap (mul binary64 halfDouble) (scale .ensures)) (c .before .before .scale-row .ensures)),
     )
 
@@ -86,8 +86,8 @@ returns c =
     let l = c .before .loop in
     laid-end 8 (passRow (c .before .before .before .args .block .now)) (λ j. length-tabulate _ _) 8 (l .u) _ (l .out) (l .inv .3) (omega arith) (l .inv .2)
 
-pub fdct-1d-spec : {M : Type 1} → statement M
-fdct-1d-spec =
+pub fdct-1d-columns-spec : {M : Type 1} → statement M
+fdct-1d-columns-spec =
     tie.close
     (tie.spec
     Inv-loop
