@@ -2,10 +2,15 @@
 use Prim.Native.Nat.{ℕ, _+_, _<_}
 use native.Mathlib.Omega.{arith}
 use mathlib.Core.Path.{_≡_, refl, sym, ap, _∙_}
+use mathlib.Core.List.{List}
 use lib.IntN.{ℤ, pos}
+use lib.ListN.{getD}
+use Rattle.basis.specs.Lists.{tabulate}
+use Rattle.basis.proofs.Lists.{tabulate-cong}
 use Rattle.basis.proofs.Parts.{difference-high}
 use Rattle.quarter_sample.specs.Places.{tap, halfway}
-use Rattle.quarter_sample.specs.ToldPasses.{mix, mixTaps, step}
+use Rattle.quarter_sample.specs.ToldPasses.{mix, mixTaps, step, firRows, nearRows, mixRows}
+use Rattle.quarter_sample.proofs.Weights.{average-comm}
 
 -- taps 3 and 4 are the samples at i and i + 1
 tap3 : (s : ℤ → ℕ) (i : ℕ) → tap s i 3 ≡ s (pos i)
@@ -28,3 +33,24 @@ module _ (rc max fraction i : ℕ) where
       sym (taps-step s refl refl refl refl refl refl refl refl)
       ∙ taps-step t (e 0 (omega arith)) (e 1 (omega arith)) (e 2 (omega arith)) (e 3 (omega arith))
       (e 4 (omega arith)) (e 5 (omega arith)) (e 6 (omega arith)) (e 7 (omega arith))
+
+-- eight rows of taps at each fraction between the samples
+module _ (rc max n : ℕ) (t0 t1 t2 t3 t4 t5 t6 t7 : List ℕ) {out : List ℕ} {fraction : ℕ} where
+  pub at-quarter : fraction ≡ 1 → out ≡ tabulate n (nearRows rc max t3 t0 t1 t2 t3 t4 t5 t6 t7)
+      → out ≡ tabulate n (mixRows rc max fraction t0 t1 t2 t3 t4 t5 t6 t7)
+  unfolding mixTaps mix
+  at-quarter e o = o ∙ ap (λ (f : ℕ). tabulate n (mixRows rc max f t0 t1 t2 t3 t4 t5 t6 t7)) (sym e)
+
+  pub at-half : fraction ≡ 2 → out ≡ tabulate n (firRows rc max t0 t1 t2 t3 t4 t5 t6 t7)
+      → out ≡ tabulate n (mixRows rc max fraction t0 t1 t2 t3 t4 t5 t6 t7)
+  unfolding mixTaps mix
+  at-half e o = o ∙ ap (λ (f : ℕ). tabulate n (mixRows rc max f t0 t1 t2 t3 t4 t5 t6 t7)) (sym e)
+
+  pub at-three-quarters : fraction ≡ 3 → out ≡ tabulate n (nearRows rc max t4 t0 t1 t2 t3 t4 t5 t6 t7)
+      → out ≡ tabulate n (mixRows rc max fraction t0 t1 t2 t3 t4 t5 t6 t7)
+  unfolding mixTaps mix
+  at-three-quarters e o =
+      o
+      ∙ tabulate-cong n (nearRows rc max t4 t0 t1 t2 t3 t4 t5 t6 t7) (mixRows rc max 3 t0 t1 t2 t3 t4 t5 t6 t7)
+      (λ i h. average-comm rc max (getD t4 i 0) (firRows rc max t0 t1 t2 t3 t4 t5 t6 t7 i))
+      ∙ ap (λ (f : ℕ). tabulate n (mixRows rc max f t0 t1 t2 t3 t4 t5 t6 t7)) (sym e)

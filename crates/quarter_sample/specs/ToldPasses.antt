@@ -30,10 +30,23 @@ mix rc max fraction here half next =
 unfoldable pub mixTaps : ℕ → ℕ → ℕ → ℕ → ℕ → ℕ → ℕ → ℕ → ℕ → ℕ → ℕ → ℕ
 mixTaps rc max fraction s0 s1 s2 s3 s4 s5 s6 s7 = mix rc max fraction s3 (fir rc max s0 s1 s2 s3 s4 s5 s6 s7) s4
 
--- place i of eight rows, one a tap
+-- place i of eight rows, one a tap: half a sample on, that averaged with a row near it, and at the fraction
+abbrev pub firRows : ℕ → ℕ → List ℕ → List ℕ → List ℕ → List ℕ → List ℕ → List ℕ → List ℕ → List ℕ → ℕ → ℕ
+firRows rc max t0 t1 t2 t3 t4 t5 t6 t7 i =
+    fir rc max (getD t0 i 0) (getD t1 i 0) (getD t2 i 0) (getD t3 i 0) (getD t4 i 0) (getD t5 i 0) (getD t6 i 0) (getD t7 i 0)
+
+abbrev pub nearRows : ℕ → ℕ → List ℕ → List ℕ → List ℕ → List ℕ → List ℕ → List ℕ → List ℕ → List ℕ → List ℕ → ℕ → ℕ
+nearRows rc max near t0 t1 t2 t3 t4 t5 t6 t7 i = average rc max (getD near i 0) (firRows rc max t0 t1 t2 t3 t4 t5 t6 t7 i)
+
 abbrev pub mixRows : ℕ → ℕ → ℕ → List ℕ → List ℕ → List ℕ → List ℕ → List ℕ → List ℕ → List ℕ → List ℕ → ℕ → ℕ
 mixRows rc max fraction t0 t1 t2 t3 t4 t5 t6 t7 i =
     mixTaps rc max fraction (getD t0 i 0) (getD t1 i 0) (getD t2 i 0) (getD t3 i 0) (getD t4 i 0) (getD t5 i 0) (getD t6 i 0) (getD t7 i 0)
+
+-- place i of one long row, whose taps stand d apart
+unfoldable pub spacedAt : ℕ → ℕ → ℕ → List ℕ → ℕ → ℕ → ℕ
+spacedAt rc max fraction l d i =
+    mixTaps rc max fraction (getD l (0 + i) 0) (getD l (d + i) 0) (getD l (2 * d + i) 0) (getD l (3 * d + i) 0)
+    (getD l (4 * d + i) 0) (getD l (5 * d + i) 0) (getD l (6 * d + i) 0) (getD l (7 * d + i) 0)
 
 -- one axis: the fraction after place i of a line
 unfoldable pub step : ℕ → ℕ → ℕ → (ℤ → ℕ) → ℕ → ℕ
@@ -53,6 +66,22 @@ rowLine l w j t = getD l (j * w + mirror w t) 0
 
 unfoldable pub columnLine : List ℕ → ℕ → ℕ → ℕ → ℤ → ℕ
 columnLine l stride h i t = getD l (mirror h t * stride + i) 0
+
+-- what the buffers are filled with: rows of n samples between three samples of their reflection on either side, the first w samples
+-- of rows of `stride`, and those of the rows that the indices from -3 on read
+abbrev pub extendedRows : ℕ → ℕ → List ℕ → List ℕ
+extendedRows n rows block = raster (n + 6) rows (λ (u j : ℕ). rowLine block n j (pos u -ℤ pos 3))
+
+abbrev pub takenRows : ℕ → ℕ → ℕ → List ℕ → List ℕ
+takenRows stride w rows src = raster w rows (λ (i j : ℕ). getD src (j * stride + i) 0)
+
+abbrev pub mirroredRows : ℕ → ℕ → ℕ → List ℕ → List ℕ
+mirroredRows stride w size src = raster w (size + 6) (λ (i u : ℕ). columnLine src stride size i (pos u -ℤ pos 3))
+
+-- the first w samples of each of so many rows of w + 7 are a block's rows at the horizontal fraction
+abbrev pub Filtered : ℕ → ℕ → ℕ → ℕ → ℕ → List ℕ → List ℕ → Type 0
+Filtered w rows rc max fraction block wide =
+    (i j : ℕ) → i < w → j < rows → getD wide (j * (w + 7) + i) 0 ≡ step rc max fraction (rowLine block (w + 1) j) i
 
 -- the source that a buffer with h rows of w samples holds
 unfoldable pub bufferSource : List ℕ → ℕ → ℕ → Source
@@ -105,63 +134,55 @@ pub record TapsFit (t0 t1 t2 t3 t4 t5 t6 t7 : List ℕ) (n : ℕ) : Type 0 where
   pub fits6 : length t6 ≡ n
   pub fits7 : length t7 ≡ n
 
--- row j of a block with rows of n samples
-pub record LineNeeds (block n j fraction rc line out : ℕ) : Type 0 where
+-- the first rows of a block with rows of n samples
+pub record ExtendNeeds (block n rows ext : ℕ) : Type 0 where
   pub n-low : 3 ≤ n
   pub n-high : n ≤ 17
-  pub inside : j * n + n ≤ block
+  pub inside : rows * n ≤ block
+  pub fits : ext ≡ rows * (n + 6)
+
+-- `size` rows of `stride` samples
+pub record MirrorNeeds (src stride w size out : ℕ) : Type 0 where
+  pub narrow : w ≤ stride
+  pub size-low : 3 ≤ size
+  pub size-high : size ≤ 17
+  pub inside : size * stride ≤ src
+  pub fits : out ≡ (size + 6) * w
+
+-- taps d apart in a buffer of 408
+pub record SpacedNeeds (d fraction rc out : ℕ) : Type 0 where
+  pub inside : 7 * d + out ≤ 408
+  pub some-fraction : 0 < fraction
   pub fraction-small : fraction < 4
   pub rc-small : rc ≤ 1
-  pub line-fits : line ≡ n + 6
-  pub out-fits : out + 1 ≡ n
 
 -- the first rows of a block with one column more than is wanted
-pub record RowsNeeds (block w h fraction rc out : ℕ) : Type 0 where
+pub record RowsNeeds (w rows fraction rc wide : ℕ) : Type 0 where
   pub width-low : 2 ≤ w
   pub width-high : w ≤ 16
-  pub height-high : h ≤ 17
-  pub inside : h * (w + 1) ≤ block
+  pub rows-high : rows ≤ 17
+  pub some-fraction : 0 < fraction
   pub fraction-small : fraction < 4
   pub rc-small : rc ≤ 1
-  pub out-fits : out ≡ h * w
+  pub reaches : rows * (w + 7) ≤ wide
+  pub wide-high : wide ≤ 400
 
--- the row that index u - 3 of `size` rows of `stride` samples reads
-pub record TapNeeds (src stride w u size : ℕ) : Type 0 where
-  pub narrow : w ≤ stride
-  pub stride-high : stride ≤ 17
-  pub size-low : 3 ≤ size
-  pub size-high : size ≤ 17
-  pub u-high : u < size + 6
-  pub inside : size * stride ≤ src
-
--- row j between `size` rows of `stride` samples
-pub record ColumnRowNeeds (src stride size j fraction rc out : ℕ) : Type 0 where
-  pub narrow : out ≤ stride
-  pub stride-high : stride ≤ 17
-  pub size-low : 3 ≤ size
-  pub size-high : size ≤ 17
-  pub j-high : j + 1 < size
-  pub inside : size * stride ≤ src
-  pub fraction-small : fraction < 4
-  pub rc-small : rc ≤ 1
-
--- the wanted block between one row more of `stride` samples
-pub record ColumnsNeeds (src stride w h fraction rc out : ℕ) : Type 0 where
-  pub narrow : w ≤ stride
-  pub stride-high : stride ≤ 17
-  pub height-low : 2 ≤ h
-  pub height-high : h ≤ 16
-  pub inside : (h + 1) * stride ≤ src
-  pub fraction-small : fraction < 4
-  pub rc-small : rc ≤ 1
-  pub out-fits : out ≡ h * w
-
--- a copied block with one column and one row more than is wanted
-pub record PlaceNeeds (block w h rc out : ℕ) : Type 0 where
+-- the wanted block, at a fraction
+pub record PassNeeds (w h fraction rc out : ℕ) : Type 0 where
   pub width-low : 2 ≤ w
   pub width-high : w ≤ 16
   pub height-low : 2 ≤ h
   pub height-high : h ≤ 16
-  pub block-fits : block ≡ (h + 1) * (w + 1)
+  pub some-fraction : 0 < fraction
+  pub fraction-small : fraction < 4
+  pub rc-small : rc ≤ 1
+  pub out-fits : out ≡ h * w
+
+-- the wanted block
+pub record PlaceNeeds (w h rc out : ℕ) : Type 0 where
+  pub width-low : 2 ≤ w
+  pub width-high : w ≤ 16
+  pub height-low : 2 ≤ h
+  pub height-high : h ≤ 16
   pub rc-small : rc ≤ 1
   pub out-fits : out ≡ h * w

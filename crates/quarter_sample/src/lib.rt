@@ -1,7 +1,6 @@
 // Quarter-sample interpolation of luma blocks (ISO/IEC 14496-2, 7.6.2.2).
 ghost use mathlib.Core.Path.{_≡_};
 ghost use mathlib.Core.Bool.{true};
-ghost use Prim.Native.Nat.{_+_, _*_};
 ghost use lib.IntN.{pos, negsuc};
 ghost use lib.ListN.{length};
 ghost use Rattle.refusal.specs.Reply.{done};
@@ -70,43 +69,7 @@ fn start_of(corner: Point, vector: MotionVector) -> Start
     }
 }
 
-// A block that nothing turns back, by way of a copy in the buffer.
-fn interpolate_within(
-    samples: &[u8],
-    geometry: Geometry,
-    site: Site,
-    vector: MotionVector,
-    rounding: u8,
-    bits_per_pixel: u32,
-    buffer: &mut [u8],
-    out: &mut [u8],
-)
-    requires { ⌜ Interpolable geometry (length (now samples)) site vector «bits_per_pixel» (length (now out)) ⌝ }
-    requires { ⌜ length (now buffer) ≡ (site .width + 1) * (site .height + 1) ⌝ }
-    ensures { λ _. ⌜ now (out .exit) ≡ quarterBlock (planeOf (now (samples .entry)) geometry) site vector rounding «bits_per_pixel» ⌝ }
-{
-    let corner = site.corner;
-    let start = start_of(corner, vector);
-    let at = start.at;
-    plane::copy_block(
-        samples,
-        geometry,
-        at,
-        site.width + 1,
-        site.height + 1,
-        buffer,
-    );
-    passes::interpolate_place(
-        buffer,
-        site.width,
-        site.height,
-        start.fractions,
-        rounding % 2,
-        filter::largest_sample(bits_per_pixel),
-        out,
-    );
-}
-
+// A block that nothing turns back, by way of a copy of one column and one row more.
 fn interpolate(
     samples: &[u8],
     geometry: Geometry,
@@ -120,15 +83,20 @@ fn interpolate(
     ensures { λ _. ⌜ now (out .exit) ≡ quarterBlock (planeOf (now (samples .entry)) geometry) site vector rounding «bits_per_pixel» ⌝ }
 {
     let mut block = [0u8; 289];
-    let count = (site.width + 1) * (site.height + 1);
-    interpolate_within(
-        samples,
-        geometry,
-        site,
-        vector,
-        rounding,
-        bits_per_pixel,
-        &mut block[..count],
+    let corner = site.corner;
+    let start = start_of(corner, vector);
+    let at = start.at;
+    let w = site.width + 1;
+    let h = site.height + 1;
+    let count = w * h;
+    plane::copy_block(samples, geometry, at, w, h, &mut block[..count]);
+    passes::interpolate_place(
+        &block,
+        site.width,
+        site.height,
+        start.fractions,
+        rounding % 2,
+        filter::largest_sample(bits_per_pixel),
         out,
     );
 }

@@ -1,119 +1,67 @@
--- `filter_taps` meets its contract: after i turns i places are filled. Assumes nothing.
-use Prim.Native.Nat.{ℕ, _-_, _≤_}
+-- `filter_taps` meets its contract: each arm is its fraction. Assumes nothing.
 use native.Mathlib.Omega.{arith}
-use mathlib.Core.Path.{ap, _∙_, _≡_, refl, sym}
-use lib.ListN.{getD, length, length-set}
-use Rattle.basis.proofs.Lists.{filled, filled-none, filled-set, filled-end}
-use Rattle.quarter_sample.specs.ToldPasses.{mix, mixTaps, mixRows}
+use mathlib.Core.Path.{_≡_}
+use lib.ListN.{length}
+use borrow.Author.Needs.{needs}
+use Rattle.quarter_sample.proofs.Lines.{at-quarter, at-half, at-three-quarters}
 use Rattle.quarter_sample.proofs.filter.filter_taps.Statement.{statement}
 use Rattle.quarter_sample.proofs.filter.filter_taps.Tie as tie
 
-abbrev Inv-loop : tie.InvT-loop
-Inv-loop t0 t1 t2 t3 t4 t5 t6 t7 fraction rc max out₀ i₀ i-end out i =
-    (i ≤ i-end) × (i-end ≡ length out₀) × (length out ≡ length out₀)
-    × (out ≡ filled i (mixRows rc max fraction t0 t1 t2 t3 t4 t5 t6 t7) out₀)
+near-taps-requires : tie.Need-near-taps-requires
+near-taps-requires c κs = search needs
 
-abbrev μ-loop : tie.MeasureT-loop
-μ-loop t0 t1 t2 t3 t4 t5 t6 t7 fraction rc max out₀ i₀ i-end out i = i-end - i
+half-taps-requires : tie.Need-half-taps-requires
+half-taps-requires c κs = search needs
 
-loop-holds : tie.Need-loop-holds Inv-loop μ-loop
-loop-holds c = (omega arith, refl, refl, sym (filled-none _ _))
+near-taps-requires-2 : tie.Need-near-taps-requires-2
+near-taps-requires-2 c κs = search needs
 
-shared-slice-read-fir : tie.Need-shared-slice-read-fir Inv-loop μ-loop
-shared-slice-read-fir c = omega arith
+-- where the call began
+abbrev start : tie.After-slice-known → tie.Start
+start c = c .before .before .before .before .before .before .before .before .before
 
-shared-slice-read-fir-2 : tie.Need-shared-slice-read-fir-2 Inv-loop μ-loop
-shared-slice-read-fir-2 c = omega arith
+same-length : tie.Need-same-length
+same-length c = search needs
 
-shared-slice-read-fir-3 : tie.Need-shared-slice-read-fir-3 Inv-loop μ-loop
-shared-slice-read-fir-3 c = omega arith
+returns : tie.Need-returns
+returns c =
+    let m = c .before .before .before .before in
+    let a = start (m .before) .args in
+    at-quarter (a .rc) (a .max) (length (a .out .now)) (a .t0 .now) (a .t1 .now) (a .t2 .now) (a .t3 .now) (a .t4 .now) (a .t5 .now) (a .t6 .now)
+    (a .t7 .now) (m .match .keys1) (c .before .before .near-taps .ensures)
 
-shared-slice-read-fir-4 : tie.Need-shared-slice-read-fir-4 Inv-loop μ-loop
-shared-slice-read-fir-4 c = omega arith
+same-length-2 : tie.Need-same-length-2
+same-length-2 c = search needs
 
-shared-slice-read-fir-5 : tie.Need-shared-slice-read-fir-5 Inv-loop μ-loop
-shared-slice-read-fir-5 c = omega arith
+returns-2 : tie.Need-returns-2
+returns-2 c =
+    let m = c .before .before .before .before in
+    let a = start (m .before) .args in
+    at-half (a .rc) (a .max) (length (a .out .now)) (a .t0 .now) (a .t1 .now) (a .t2 .now) (a .t3 .now) (a .t4 .now) (a .t5 .now) (a .t6 .now)
+    (a .t7 .now) (m .match .keys2) (c .before .before .half-taps .ensures)
 
-shared-slice-read-fir-6 : tie.Need-shared-slice-read-fir-6 Inv-loop μ-loop
-shared-slice-read-fir-6 c = omega arith
+same-length-3 : tie.Need-same-length-3
+same-length-3 c = search needs
 
-shared-slice-read-fir-7 : tie.Need-shared-slice-read-fir-7 Inv-loop μ-loop
-shared-slice-read-fir-7 c = omega arith
-
-shared-slice-read-fir-8 : tie.Need-shared-slice-read-fir-8 Inv-loop μ-loop
-shared-slice-read-fir-8 c = omega arith
-
-fir-requires : tie.Need-fir-requires Inv-loop μ-loop
-fir-requires c κs = omega arith
-
-shared-slice-read-at-fraction : tie.Need-shared-slice-read-at-fraction Inv-loop μ-loop
-shared-slice-read-at-fraction c = omega arith
-
-shared-slice-read-at-fraction-2 : tie.Need-shared-slice-read-at-fraction-2 Inv-loop μ-loop
-shared-slice-read-at-fraction-2 c = omega arith
-
-at-fraction-requires : tie.Need-at-fraction-requires Inv-loop μ-loop
-at-fraction-requires c κs = omega arith
-
-slice-write-out : tie.Need-slice-write-out Inv-loop μ-loop
-slice-write-out c = omega arith
-
-add-i : tie.Need-add-i Inv-loop μ-loop
-add-i c = omega arith
-
-loop-less : tie.Need-loop-less Inv-loop μ-loop
-loop-less c = omega arith
-
--- where a turn began, and the call
-abbrev turn : tie.After-fir Inv-loop μ-loop → tie.At-loop Inv-loop μ-loop
-turn c = c .before .before .before .before .before .before .before .before .before .before
-
-abbrev start : tie.At-loop Inv-loop μ-loop → tie.Start Inv-loop μ-loop
-start c = c .before .before .before .before .before .before .before .before .before .before
-
-loop-again : tie.Need-loop-again Inv-loop μ-loop
-unfolding mixTaps
-loop-again c =
-    let f = c .before .before .before in
-    let l = turn f .loop in
-    let a = start (turn f) .args in (
-      omega arith,
-      omega arith,
-      simp length-set (omega arith),
-      filled-set _ _ _ _ _ (l .inv .3)
-          (c .at-fraction .ensures
-          ∙ ap (λ (n : ℕ). mix (a .rc) (a .max) (a .fraction) (getD (a .t3 .now) (l .i) 0) n (getD (a .t4 .now) (l .i) 0)) (f .fir .ensures))
-          (omega arith),
-    )
-
-same-length : tie.Need-same-length Inv-loop μ-loop
-same-length c = omega arith
-
-returns : tie.Need-returns Inv-loop μ-loop
-returns c = filled-end _ _ _ _ (c .before .loop .inv .3) (omega arith)
+returns-3 : tie.Need-returns-3
+returns-3 c =
+    let m = c .before .before .before .before in
+    let s = start (m .before) in
+    let a = s .args in
+    let e : a .fraction ≡ 3 = omega (arith, s .pre .0, m .match .rest) in
+    at-three-quarters (a .rc) (a .max) (length (a .out .now)) (a .t0 .now) (a .t1 .now) (a .t2 .now) (a .t3 .now) (a .t4 .now) (a .t5 .now) (a .t6 .now)
+    (a .t7 .now) e (c .before .before .near-taps2 .ensures)
 
 pub filter-taps-spec : {M : Type 1} → statement M
 filter-taps-spec =
     tie.close
     (tie.spec
-    Inv-loop
-    μ-loop
-    loop-holds
-    shared-slice-read-fir
-    shared-slice-read-fir-2
-    shared-slice-read-fir-3
-    shared-slice-read-fir-4
-    shared-slice-read-fir-5
-    shared-slice-read-fir-6
-    shared-slice-read-fir-7
-    shared-slice-read-fir-8
-    fir-requires
-    shared-slice-read-at-fraction
-    shared-slice-read-at-fraction-2
-    at-fraction-requires
-    slice-write-out
-    add-i
-    loop-less
-    loop-again
+    near-taps-requires
+    half-taps-requires
+    near-taps-requires-2
     same-length
-    returns)
+    returns
+    same-length-2
+    returns-2
+    same-length-3
+    returns-3)

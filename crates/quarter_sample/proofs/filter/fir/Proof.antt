@@ -1,5 +1,4 @@
 -- `fir` meets its contract: the weights as eighths give the same. Assumes nothing.
-use Prim.Native.Nat.{_-_}
 use native.Mathlib.Omega.{arith}
 use borrow.Author.Needs.{needs}
 use Rattle.quarter_sample.proofs.Weights.{fir-eighths}
@@ -39,23 +38,26 @@ add-down-2 c = search needs
 add-down-3 : tie.Need-add-down-3
 add-down-3 c = search needs
 
+excess-requires : tie.Need-excess-requires
+excess-requires c κs = search needs
+
+to-byte-requires : tie.Need-to-byte-requires
+to-byte-requires c κs = search needs
+
+smaller-requires : tie.Need-smaller-requires
+smaller-requires c κs = search needs
+
 returns : tie.Need-returns
 returns c =
-    let a = c .before .args in
-    omega (arith, fir-eighths (a .s0) (a .s1) (a .s2) (a .s3) (a .s4) (a .s5) (a .s6) (a .s7) (a .rc) (a .max) (c .before .pre))
-
-returns-2 : tie.Need-returns-2
-returns-2 c =
-    let a = c .before .before .args in
-    omega (arith, fir-eighths (a .s0) (a .s1) (a .s2) (a .s3) (a .s4) (a .s5) (a .s6) (a .s7) (a .rc) (a .max) (c .before .before .pre))
-
-cast-result : tie.Need-cast-result
-cast-result c = search needs
-
-returns-3 : tie.Need-returns-3
-returns-3 c =
-    let a = c .before .before .args in
-    omega (arith, fir-eighths (a .s0) (a .s1) (a .s2) (a .s3) (a .s4) (a .s5) (a .s6) (a .s7) (a .rc) (a .max) (c .before .before .pre))
+    let s = c .before .before .before in
+    let a = s .args in
+    omega (
+      arith,
+      c .smaller .ensures,
+      c .before .to-byte .ensures,
+      c .before .before .excess .ensures,
+      fir-eighths (a .s0) (a .s1) (a .s2) (a .s3) (a .s4) (a .s5) (a .s6) (a .s7) (a .rc) (a .max) (s .pre),
+    )
 
 pub fir-spec : {M : Type 1} → statement M
 fir-spec =
@@ -72,7 +74,7 @@ fir-spec =
     mul-down
     add-down-2
     add-down-3
-    returns
-    returns-2
-    cast-result
-    returns-3)
+    excess-requires
+    to-byte-requires
+    smaller-requires
+    returns)

@@ -1,115 +1,149 @@
--- `column_pass` meets its contract: after j turns j rows are laid. Assumes nothing.
-use Prim.Native.Nat.{ℕ, _+_, _-_, _*_, _≤_}
+-- `column_pass` meets its contract: the mirrored rows, filtered in one long row, are the columns at the fraction. Assumes nothing.
+use Prim.Native.Nat.{ℕ, _+_, _*_, _≤_}
 use native.Mathlib.Omega.{arith}
+use mathlib.Core.Logic.{⊎-elim}
 use mathlib.Core.Path.{_≡_, refl, sym, ap, _∙_}
-use mathlib.Core.List.{List}
 use lib.ListN.{length}
-use Rattle.basis.specs.Lists.{tabulate}
-use Rattle.basis.proofs.Bounds.{row-before}
-use Rattle.basis.proofs.Lists.{length-tabulate, laid, laid-none, laid-put, laid-end}
-use Rattle.basis.proofs.Slices.{part-length}
-use Rattle.quarter_sample.specs.ToldPasses.{step, columnLine}
+use lib.Seq.{length-take-le}
+use borrow.Author.Needs.{needs}
+use Rattle.basis.proofs.Bounds.{product-le}
+use Rattle.quarter_sample.proofs.Buffers.{columned}
 use Rattle.quarter_sample.proofs.passes.column_pass.Statement.{statement}
 use Rattle.quarter_sample.proofs.passes.column_pass.Tie as tie
 
--- row j of the result, out of `size` rows
-abbrev rowAt : List ℕ → ℕ → ℕ → ℕ → ℕ → ℕ → ℕ → ℕ → List ℕ
-rowAt src stride size rc max fraction w j = tabulate w (λ i. step rc max fraction (columnLine src stride size i) j)
+small : (s : tie.Start) → (s .args .h + 7) * s .args .w ≤ 408
+small s =
+    let h : s .args .h + 7 ≤ 23 = omega (arith, s .pre .height-high) in
+    omega (arith, product-le h (s .pre .width-high))
 
-abbrev Inv-loop : tie.InvT-loop
-Inv-loop src stride w h fraction rc max out₀ size j₀ out j =
-    (j ≤ h) × (length out ≡ length out₀) × (out ≡ laid w (rowAt src stride (h + 1) rc max fraction w) j out₀)
+-- the rows that are mirrored
+inside : (s : tie.Start) → (s .args .h + 1) * (s .args .w + 1) ≤ 289
+inside s =
+    let h : s .args .h + 1 ≤ 17 = omega (arith, s .pre .height-high) in
+    let w : s .args .w + 1 ≤ 17 = omega (arith, s .pre .width-high) in
+    product-le h w
 
-abbrev μ-loop : tie.MeasureT-loop
-μ-loop src stride w h fraction rc max out₀ size j₀ out j = h - j
+add-count : tie.Need-add-count
+add-count c = search needs
 
-add-size : tie.Need-add-size Inv-loop μ-loop
-add-size c = omega arith
+mul-count : tie.Need-mul-count
+mul-count c = omega (arith, small (c .before))
 
-loop-holds : tie.Need-loop-holds Inv-loop μ-loop
-loop-holds c = (omega arith, refl, sym (laid-none _ _ (λ j. length-tabulate _ _) _))
+add-mirror-rows : tie.Need-add-mirror-rows
+add-mirror-rows c = search needs
 
-abbrev startOf : tie.In-loop Inv-loop μ-loop → tie.Start Inv-loop μ-loop
-startOf c = c .before .before .before .before
+array-borrow-prefix-middle : tie.Need-array-borrow-prefix-middle
+array-borrow-prefix-middle c = small (c .before .before .before)
 
--- row j of the result lies within it
-inside : (c : tie.In-loop Inv-loop μ-loop) → let a = startOf c .args in c .before .loop .j * a .w + a .w ≤ a .h * a .w
-inside c = row-before (startOf c .args .w) (c .loop-test .taken)
+slice-aggregate-mirror-rows : tie.Need-slice-aggregate-mirror-rows
+slice-aggregate-mirror-rows c = sym (length-take-le _ _ (small (c .before .before .before .before)))
 
-mul-from : tie.Need-mul-from Inv-loop μ-loop
-mul-from c = omega (arith, inside c)
-
-add-to : tie.Need-add-to Inv-loop μ-loop
-add-to c = omega (arith, inside c)
-
-sub-filter-column-row : tie.Need-sub-filter-column-row Inv-loop μ-loop
-sub-filter-column-row c = omega (arith, inside c)
-
-part-filter-column-row-start : tie.Need-part-filter-column-row-start Inv-loop μ-loop
-part-filter-column-row-start c = omega (arith, inside c)
-
-part-filter-column-row-end : tie.Need-part-filter-column-row-end Inv-loop μ-loop
-part-filter-column-row-end c = omega (arith, inside c)
-
-filter-column-row-requires : tie.Need-filter-column-row-requires Inv-loop μ-loop
-filter-column-row-requires c κs =
-    let t = c .before in
-    let s = startOf t in
-    let w = s .args .w in
-    let l = t .before .loop in
+mirror-rows-requires : tie.Need-mirror-rows-requires
+mirror-rows-requires c κs =
+    let s = c .before .before .before .before in
+    let a = s .args in
+    let rows : (a .h + 7) * a .w ≡ (a .h + 1 + 6) * 16 = ap (λ (n : ℕ). (a .h + 7) * n) (c .before .before .match .keys1) ∙ omega arith in
     record {
-      narrow = omega (arith, s .pre .narrow, part-length (l .out) (l .j * w) w (omega (arith, inside t)));
-      stride-high = s .pre .stride-high;
+      narrow = omega arith;
       size-low = omega (arith, s .pre .height-low);
       size-high = omega (arith, s .pre .height-high);
-      j-high = omega arith;
-      inside = s .pre .inside;
+      inside = omega (arith, s .pre .height-high);
+      fits = length-take-le _ _ (small s) ∙ rows;
+    }
+
+add-mirror-rows-2 : tie.Need-add-mirror-rows-2
+add-mirror-rows-2 c = search needs
+
+array-borrow-prefix-middle-2 : tie.Need-array-borrow-prefix-middle-2
+array-borrow-prefix-middle-2 c = small (c .before .before .before)
+
+slice-aggregate-mirror-rows-2 : tie.Need-slice-aggregate-mirror-rows-2
+slice-aggregate-mirror-rows-2 c = sym (length-take-le _ _ (small (c .before .before .before .before)))
+
+mirror-rows-requires-2 : tie.Need-mirror-rows-requires-2
+mirror-rows-requires-2 c κs =
+    let s = c .before .before .before .before in
+    let a = s .args in
+    let rows : (a .h + 7) * a .w ≡ (a .h + 1 + 6) * 8 = ap (λ (n : ℕ). (a .h + 7) * n) (c .before .before .match .keys2) ∙ omega arith in
+    record {
+      narrow = omega arith;
+      size-low = omega (arith, s .pre .height-low);
+      size-high = omega (arith, s .pre .height-high);
+      inside = omega (arith, s .pre .height-high);
+      fits = length-take-le _ _ (small s) ∙ rows;
+    }
+
+add-mirror-rows-3 : tie.Need-add-mirror-rows-3
+add-mirror-rows-3 c = search needs
+
+add-mirror-rows-4 : tie.Need-add-mirror-rows-4
+add-mirror-rows-4 c = search needs
+
+array-borrow-prefix-middle-3 : tie.Need-array-borrow-prefix-middle-3
+array-borrow-prefix-middle-3 c = small (c .before .before .before)
+
+slice-aggregate-mirror-rows-3 : tie.Need-slice-aggregate-mirror-rows-3
+slice-aggregate-mirror-rows-3 c = sym (length-take-le _ _ (small (c .before .before .before .before)))
+
+mirror-rows-requires-3 : tie.Need-mirror-rows-requires-3
+mirror-rows-requires-3 c κs =
+    let s = c .before .before .before .before in
+    let a = s .args in
+    let rows : (a .h + 7) * a .w ≡ (a .h + 1 + 6) * a .w = omega arith in
+    record {
+      narrow = omega arith;
+      size-low = omega (arith, s .pre .height-low);
+      size-high = omega (arith, s .pre .height-high);
+      inside = omega (arith, inside s);
+      fits = length-take-le _ _ (small s) ∙ rows;
+    }
+
+filter-spaced-requires : tie.Need-filter-spaced-requires
+filter-spaced-requires c κs =
+    let s = c .before .before .before .before in
+    record {
+      inside = omega (arith, s .pre .out-fits, s .pre .width-high, product-le (s .pre .height-high) (s .pre .width-high));
+      some-fraction = s .pre .some-fraction;
       fraction-small = s .pre .fraction-small;
       rc-small = s .pre .rc-small;
     }
 
-add-j : tie.Need-add-j Inv-loop μ-loop
-add-j c = omega arith
+same-length : tie.Need-same-length
+same-length c = search needs
 
-loop-less : tie.Need-loop-less Inv-loop μ-loop
-loop-less c = omega arith
-
-loop-again : tie.Need-loop-again Inv-loop μ-loop
-loop-again c =
-    let t = c .before .before .before .before in
-    let l = t .before in
-    let a = startOf t .args in
-    let w = a .w in (
-      omega arith,
-      omega arith,
-      laid-put _ _ (λ j. length-tabulate _ _) (l .loop .j) (a .out .now) (l .loop .out) _ (l .loop .inv .2)
-          (c .before .before .filter-column-row .ensures
-          ∙ ap (λ (k : ℕ). rowAt (a .src .now) (a .stride) (a .h + 1) (a .rc) (a .max) (a .fraction) k (l .loop .j))
-          (part-length (l .loop .out) (l .loop .j * w) w (omega (arith, inside t)))),
-    )
-
-same-length : tie.Need-same-length Inv-loop μ-loop
-same-length c = omega arith
-
-returns : tie.Need-returns Inv-loop μ-loop
-returns c = laid-end _ _ (λ j. length-tabulate _ _) _ _ _ _ (c .before .loop .inv .2) (omega arith) (omega arith)
+returns : tie.Need-returns
+returns c =
+    let j = c .before .before .before .before .before in
+    let s = j .before .before in
+    let a = s .args in
+    let o = c .before .before .filter-spaced .ensures in
+    let law = columned (a .rc) (a .max) (a .fraction) (a .w) (a .h) (a .w + 1) (a .block .now) in
+    ⊎-elim
+    (λ m. law _ 17 16 _ (m .3 .last .1 .1 .1 .1 .0) _ _ (omega (arith, m .0 .keys1)) (sym (m .0 .keys1)) (m .5) (m .3 .ensures) (s .pre .out-fits) o)
+    (⊎-elim
+    (λ m. law _ 9 8 _ (m .3 .last .1 .1 .1 .1 .0) _ _ (omega (arith, m .0 .keys2)) (sym (m .0 .keys2)) (m .5) (m .3 .ensures) (s .pre .out-fits) o)
+    (λ m. law _ (a .w + 1) (a .w) _ (m .3 .last .1 .1 .1 .1 .0) _ _ refl refl (m .5) (m .3 .ensures) (s .pre .out-fits) o))
+    (j .match .came)
 
 pub column-pass-spec : {M : Type 1} → statement M
 column-pass-spec =
     tie.close
     (tie.spec
-    Inv-loop
-    μ-loop
-    add-size
-    loop-holds
-    mul-from
-    add-to
-    sub-filter-column-row
-    part-filter-column-row-start
-    part-filter-column-row-end
-    filter-column-row-requires
-    add-j
-    loop-less
-    loop-again
+    add-count
+    mul-count
+    add-mirror-rows
+    array-borrow-prefix-middle
+    slice-aggregate-mirror-rows
+    mirror-rows-requires
+    add-mirror-rows-2
+    array-borrow-prefix-middle-2
+    slice-aggregate-mirror-rows-2
+    mirror-rows-requires-2
+    add-mirror-rows-3
+    add-mirror-rows-4
+    array-borrow-prefix-middle-3
+    slice-aggregate-mirror-rows-3
+    mirror-rows-requires-3
+    filter-spaced-requires
     same-length
     returns)

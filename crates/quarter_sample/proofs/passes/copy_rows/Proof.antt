@@ -1,106 +1,67 @@
--- `copy_rows` meets its contract: after j turns j rows are laid. Assumes nothing.
-use Prim.Native.Nat.{_+_, _-_, _*_, _≤_}
+-- `copy_rows` meets its contract: the block has the rows. Assumes nothing.
+use Prim.Native.Nat.{ℕ, _+_, _*_, _≤_}
 use native.Mathlib.Omega.{arith}
-use mathlib.Core.Path.{_≡_, refl, sym, ap, _∙_}
-use lib.ListN.{length, getD}
-use Rattle.basis.specs.Lists.{tabulate}
-use Rattle.basis.proofs.Bounds.{row-before}
-use Rattle.basis.proofs.Lists.{length-tabulate, laid, laid-none, laid-put, laid-end}
-use Rattle.basis.proofs.Slices.{part-length}
+use mathlib.Core.Path.{sym, ap, _∙_}
+use borrow.Author.Needs.{needs}
+use Rattle.basis.proofs.Bounds.{product-le}
+use Rattle.quarter_sample.specs.ToldPasses.{takenRows}
 use Rattle.quarter_sample.proofs.passes.copy_rows.Statement.{statement}
 use Rattle.quarter_sample.proofs.passes.copy_rows.Tie as tie
 
-abbrev Inv-loop : tie.InvT-loop
-Inv-loop block w h out₀ j₀ out j =
-    (j ≤ h) × (length out ≡ length out₀) × (out ≡ laid w (λ j. tabulate w (λ i. getD block (j * (w + 1) + i) 0)) j out₀)
+take-rows-requires : tie.Need-take-rows-requires
+take-rows-requires c κs =
+    let s = c .before .before .before .before in
+    (omega arith, omega (arith, s .pre .1), s .pre .2 ∙ ap (λ (n : ℕ). s .args .h * n) (c .before .before .match .keys1))
 
-abbrev μ-loop : tie.MeasureT-loop
-μ-loop block w h out₀ j₀ out j = h - j
+take-rows-requires-2 : tie.Need-take-rows-requires-2
+take-rows-requires-2 c κs =
+    let s = c .before .before .before .before in
+    (omega arith, omega (arith, s .pre .1), s .pre .2 ∙ ap (λ (n : ℕ). s .args .h * n) (c .before .before .match .keys2))
 
-loop-holds : tie.Need-loop-holds Inv-loop μ-loop
-loop-holds c = (omega arith, refl, sym (laid-none _ _ (λ j. length-tabulate _ _) _))
+add-take-rows : tie.Need-add-take-rows
+add-take-rows c = search needs
 
-abbrev startOf : tie.In-loop Inv-loop μ-loop → tie.Start Inv-loop μ-loop
-startOf c = c .before .before .before .before
+take-rows-requires-3 : tie.Need-take-rows-requires-3
+take-rows-requires-3 c κs =
+    let s = c .before .before .before .before in
+    let w : s .args .w + 1 ≤ 17 = omega (arith, s .pre .0) in
+    (omega arith, omega (arith, product-le (s .pre .1) w), s .pre .2)
 
--- row j of the result lies within it, and row j of the block within that
-inside : (c : tie.In-loop Inv-loop μ-loop) → let a = startOf c .args in c .before .loop .j * a .w + a .w ≤ a .h * a .w
-inside c = row-before (startOf c .args .w) (c .loop-test .taken)
+same-length : tie.Need-same-length
+same-length c = search needs
 
-inside-block : (c : tie.In-loop Inv-loop μ-loop) → let n = startOf c .args .w + 1 in c .before .loop .j * n + n ≤ startOf c .args .h * n
-inside-block c = row-before (startOf c .args .w + 1) (c .loop-test .taken)
+returns : tie.Need-returns
+returns c =
+    let m = c .before .before .before .before .before in
+    let a = m .before .before .args in
+    c .before .before .take-rows .ensures ∙ ap (λ (n : ℕ). takenRows (n + 1) n (a .h) (a .block .now)) (sym (m .match .keys1))
 
-add-at : tie.Need-add-at Inv-loop μ-loop
-add-at c = omega arith
+same-length-2 : tie.Need-same-length-2
+same-length-2 c = search needs
 
-mul-at : tie.Need-mul-at Inv-loop μ-loop
-mul-at c = omega (arith, inside-block c)
+returns-2 : tie.Need-returns-2
+returns-2 c =
+    let m = c .before .before .before .before .before in
+    let a = m .before .before .args in
+    c .before .before .take-rows2 .ensures ∙ ap (λ (n : ℕ). takenRows (n + 1) n (a .h) (a .block .now)) (sym (m .match .keys2))
 
-mul-from : tie.Need-mul-from Inv-loop μ-loop
-mul-from c = omega (arith, inside c)
+same-length-3 : tie.Need-same-length-3
+same-length-3 c = search needs
 
-add-to : tie.Need-add-to Inv-loop μ-loop
-add-to c = omega (arith, inside c)
-
-part-requires : tie.Need-part-requires Inv-loop μ-loop
-part-requires c κs = omega (arith, inside-block c)
-
-sub-copy-straight : tie.Need-sub-copy-straight Inv-loop μ-loop
-sub-copy-straight c = omega (arith, inside (c .before))
-
-part-copy-straight-start : tie.Need-part-copy-straight-start Inv-loop μ-loop
-part-copy-straight-start c = omega (arith, inside (c .before))
-
-part-copy-straight-end : tie.Need-part-copy-straight-end Inv-loop μ-loop
-part-copy-straight-end c = omega (arith, inside (c .before))
-
-copy-straight-requires : tie.Need-copy-straight-requires Inv-loop μ-loop
-copy-straight-requires c κs =
-    let t = c .before .before in
-    let w = startOf t .args .w in
-    let l = t .before .loop in
-    ap length (c .before .part .ensures) ∙ length-tabulate _ _ ∙ sym (part-length (l .out) (l .j * w) w (omega (arith, inside t)))
-
-add-j : tie.Need-add-j Inv-loop μ-loop
-add-j c = omega arith
-
-loop-less : tie.Need-loop-less Inv-loop μ-loop
-loop-less c = omega arith
-
-loop-again : tie.Need-loop-again Inv-loop μ-loop
-loop-again c =
-    let l = c .before .before .before .before .before .before in
-    let a = c .before .before .before .before .before .before .before .before .before .args in (
-      omega arith,
-      omega arith,
-      laid-put _ _ (λ j. length-tabulate _ _) (l .loop .j) (a .out .now) (l .loop .out) _ (l .loop .inv .2)
-          (c .before .before .copy-straight .ensures ∙ c .before .before .before .before .part .ensures),
-    )
-
-same-length : tie.Need-same-length Inv-loop μ-loop
-same-length c = omega arith
-
-returns : tie.Need-returns Inv-loop μ-loop
-returns c = laid-end _ _ (λ j. length-tabulate _ _) _ _ _ _ (c .before .loop .inv .2) (omega arith) (omega arith)
+returns-3 : tie.Need-returns-3
+returns-3 c = c .before .before .take-rows3 .ensures
 
 pub copy-rows-spec : {M : Type 1} → statement M
 copy-rows-spec =
     tie.close
     (tie.spec
-    Inv-loop
-    μ-loop
-    loop-holds
-    add-at
-    mul-at
-    mul-from
-    add-to
-    part-requires
-    sub-copy-straight
-    part-copy-straight-start
-    part-copy-straight-end
-    copy-straight-requires
-    add-j
-    loop-less
-    loop-again
+    take-rows-requires
+    take-rows-requires-2
+    add-take-rows
+    take-rows-requires-3
     same-length
-    returns)
+    returns
+    same-length-2
+    returns-2
+    same-length-3
+    returns-3)

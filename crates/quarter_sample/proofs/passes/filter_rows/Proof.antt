@@ -1,122 +1,124 @@
--- `filter_rows` meets its contract: after j turns j rows are laid. Assumes nothing.
-use Prim.Native.Nat.{ℕ, _+_, _-_, _*_, _≤_}
+-- `filter_rows` meets its contract: the extended rows, filtered in one long row, have the rows at the fraction. Assumes nothing.
+use Prim.Native.Nat.{ℕ, _+_, _*_, _≤_}
 use native.Mathlib.Omega.{arith}
+use mathlib.Core.Logic.{⊎-elim}
 use mathlib.Core.Path.{_≡_, refl, sym, ap, _∙_}
-use mathlib.Core.List.{List}
 use lib.ListN.{length}
-use Rattle.basis.proofs.Slices.{part-length}
-use Rattle.basis.specs.Lists.{tabulate}
-use Rattle.basis.proofs.Bounds.{row-before}
-use Rattle.basis.proofs.Lists.{length-tabulate, laid, laid-none, laid-put, laid-end}
-use Rattle.quarter_sample.specs.ToldPasses.{step, rowLine}
+use lib.Seq.{length-take-le}
+use borrow.Author.Needs.{needs}
+use Rattle.basis.proofs.Bounds.{product-le}
+use Rattle.quarter_sample.proofs.Buffers.{filtered}
 use Rattle.quarter_sample.proofs.passes.filter_rows.Statement.{statement}
 use Rattle.quarter_sample.proofs.passes.filter_rows.Tie as tie
 
--- row j of the result
-abbrev rowAt : List ℕ → ℕ → ℕ → ℕ → ℕ → ℕ → List ℕ
-rowAt block w rc max fraction j = tabulate w (step rc max fraction (rowLine block (w + 1) j))
+small : (s : tie.Start) → s .args .rows * (s .args .w + 7) ≤ 408
+small s =
+    let w : s .args .w + 7 ≤ 23 = omega (arith, s .pre .width-high) in
+    omega (arith, product-le (s .pre .rows-high) w)
 
-abbrev Inv-loop : tie.InvT-loop
-Inv-loop block w h fraction rc max line₀ out₀ n j₀ line out j =
-    (j ≤ h) × (length line ≡ length line₀) × (length out ≡ length out₀) × (out ≡ laid w (rowAt block w rc max fraction) j out₀)
+-- the block has the rows
+inside : (s : tie.Start) → s .args .rows * (s .args .w + 1) ≤ 289
+inside s =
+    let w : s .args .w + 1 ≤ 17 = omega (arith, s .pre .width-high) in
+    product-le (s .pre .rows-high) w
 
-abbrev μ-loop : tie.MeasureT-loop
-μ-loop block w h fraction rc max line₀ out₀ n j₀ line out j = h - j
+add-count : tie.Need-add-count
+add-count c = search needs
 
-add-n : tie.Need-add-n Inv-loop μ-loop
-add-n c = omega arith
+mul-count : tie.Need-mul-count
+mul-count c = omega (arith, small (c .before))
 
-loop-holds : tie.Need-loop-holds Inv-loop μ-loop
-loop-holds c = (omega arith, refl, refl, sym (laid-none _ _ (λ j. length-tabulate _ _) _))
+array-borrow-prefix-ext : tie.Need-array-borrow-prefix-ext
+array-borrow-prefix-ext c = small (c .before .before .before)
 
-abbrev startOf : tie.In-loop Inv-loop μ-loop → tie.Start Inv-loop μ-loop
-startOf c = c .before .before .before .before .before
+slice-aggregate-extend-rows : tie.Need-slice-aggregate-extend-rows
+slice-aggregate-extend-rows c = sym (length-take-le _ _ (small (c .before .before .before .before)))
 
--- row j of the result lies within it, and row j of the block within that
-inside : (c : tie.In-loop Inv-loop μ-loop) → let a = startOf c .args in c .before .loop .j * a .w + a .w ≤ a .h * a .w
-inside c = row-before (startOf c .args .w) (c .loop-test .taken)
-
-inside-block : (c : tie.In-loop Inv-loop μ-loop) → let n = startOf c .args .w + 1 in c .before .loop .j * n + n ≤ startOf c .args .h * n
-inside-block c = row-before (startOf c .args .w + 1) (c .loop-test .taken)
-
-mul-from : tie.Need-mul-from Inv-loop μ-loop
-mul-from c = omega (arith, inside c)
-
-add-to : tie.Need-add-to Inv-loop μ-loop
-add-to c = omega (arith, inside c)
-
-sub-filter-row : tie.Need-sub-filter-row Inv-loop μ-loop
-sub-filter-row c = omega (arith, inside (c .before))
-
-part-filter-row-start : tie.Need-part-filter-row-start Inv-loop μ-loop
-part-filter-row-start c = omega (arith, inside (c .before))
-
-part-filter-row-end : tie.Need-part-filter-row-end Inv-loop μ-loop
-part-filter-row-end c = omega (arith, inside (c .before))
-
-filter-row-requires : tie.Need-filter-row-requires Inv-loop μ-loop
-filter-row-requires c κs =
-    let t = c .before .before in
-    let s = startOf t in
-    let w = s .args .w in
-    let l = t .before .loop in
+extend-rows-requires : tie.Need-extend-rows-requires
+extend-rows-requires c κs =
+    let s = c .before .before .before .before in
+    let a = s .args in
     record {
-      n-low = omega (arith, s .pre .0 .width-low);
-      n-high = omega (arith, s .pre .0 .width-high);
-      inside = omega (arith, inside-block t, s .pre .0 .inside);
-      fraction-small = s .pre .0 .fraction-small;
-      rc-small = s .pre .0 .rc-small;
-      line-fits = omega arith;
-      out-fits = omega (arith, part-length (l .out) (l .j * w) w (omega (arith, inside t)));
+      n-low = omega arith;
+      n-high = omega arith;
+      inside = omega (arith, s .pre .rows-high);
+      fits = length-take-le _ _ (small s) ∙ ap (λ (n : ℕ). a .rows * (n + 7)) (c .before .before .match .keys1);
     }
 
-add-j : tie.Need-add-j Inv-loop μ-loop
-add-j c = omega arith
+array-borrow-prefix-ext-2 : tie.Need-array-borrow-prefix-ext-2
+array-borrow-prefix-ext-2 c = small (c .before .before .before)
 
-loop-less : tie.Need-loop-less Inv-loop μ-loop
-loop-less c = omega arith
+slice-aggregate-extend-rows-2 : tie.Need-slice-aggregate-extend-rows-2
+slice-aggregate-extend-rows-2 c = sym (length-take-le _ _ (small (c .before .before .before .before)))
 
-loop-again : tie.Need-loop-again Inv-loop μ-loop
-loop-again c =
-    let t = c .before .before .before .before .before .before .before in
-    let l = t .before in
-    let a = startOf t .args in
-    let w = a .w in (
-      omega arith,
-      omega arith,
-      omega arith,
-      laid-put _ _ (λ j. length-tabulate _ _) (l .loop .j) (a .out .now) (l .loop .out) _ (l .loop .inv .3)
-          (c .before .before .before .before .filter-row .ensures
-          ∙ ap (λ (k : ℕ). tabulate k (step (a .rc) (a .max) (a .fraction) (rowLine (a .block .now) (w + 1) (l .loop .j))))
-          (part-length (l .loop .out) (l .loop .j * w) w (omega (arith, inside t)))),
-    )
+extend-rows-requires-2 : tie.Need-extend-rows-requires-2
+extend-rows-requires-2 c κs =
+    let s = c .before .before .before .before in
+    let a = s .args in
+    record {
+      n-low = omega arith;
+      n-high = omega arith;
+      inside = omega (arith, s .pre .rows-high);
+      fits = length-take-le _ _ (small s) ∙ ap (λ (n : ℕ). a .rows * (n + 7)) (c .before .before .match .keys2);
+    }
 
-same-length : tie.Need-same-length Inv-loop μ-loop
-same-length c = omega arith
+add-extend-rows : tie.Need-add-extend-rows
+add-extend-rows c = search needs
 
-same-length-2 : tie.Need-same-length-2 Inv-loop μ-loop
-same-length-2 c = omega arith
+array-borrow-prefix-ext-3 : tie.Need-array-borrow-prefix-ext-3
+array-borrow-prefix-ext-3 c = small (c .before .before .before)
 
-returns : tie.Need-returns Inv-loop μ-loop
-returns c = laid-end _ _ (λ j. length-tabulate _ _) _ _ _ _ (c .before .loop .inv .3) (omega arith) (omega arith)
+slice-aggregate-extend-rows-3 : tie.Need-slice-aggregate-extend-rows-3
+slice-aggregate-extend-rows-3 c = sym (length-take-le _ _ (small (c .before .before .before .before)))
+
+extend-rows-requires-3 : tie.Need-extend-rows-requires-3
+extend-rows-requires-3 c κs =
+    let s = c .before .before .before .before in
+    let a = s .args in
+    let long : a .rows * (a .w + 7) ≡ a .rows * (a .w + 1 + 6) = omega arith in
+    record {
+      n-low = omega (arith, s .pre .width-low);
+      n-high = omega (arith, s .pre .width-high);
+      inside = omega (arith, inside s);
+      fits = length-take-le _ _ (small s) ∙ long;
+    }
+
+filter-spaced-requires : tie.Need-filter-spaced-requires
+filter-spaced-requires c κs = search needs
+
+same-length : tie.Need-same-length
+same-length c = search needs
+
+returns : tie.Need-returns
+returns c =
+    let j = c .before .before .before .before .before in
+    let s = j .before .before in
+    let a = s .args in
+    let o = c .before .before .filter-spaced .ensures in
+    let law = filtered (a .rc) (a .max) (a .fraction) (a .w) (a .rows) (a .block .now) in
+    ⊎-elim
+    (λ m. law _ 17 _ (m .3 .last .1 .1 .1 .0) _ _ (omega (arith, m .0 .keys1)) (m .5) (m .3 .ensures) (s .pre .reaches) o)
+    (⊎-elim
+    (λ m. law _ 9 _ (m .3 .last .1 .1 .1 .0) _ _ (omega (arith, m .0 .keys2)) (m .5) (m .3 .ensures) (s .pre .reaches) o)
+    (λ m. law _ (a .w + 1) _ (m .3 .last .1 .1 .1 .0) _ _ refl (m .5) (m .3 .ensures) (s .pre .reaches) o))
+    (j .match .came)
 
 pub filter-rows-spec : {M : Type 1} → statement M
 filter-rows-spec =
     tie.close
     (tie.spec
-    Inv-loop
-    μ-loop
-    add-n
-    loop-holds
-    mul-from
-    add-to
-    sub-filter-row
-    part-filter-row-start
-    part-filter-row-end
-    filter-row-requires
-    add-j
-    loop-less
-    loop-again
+    add-count
+    mul-count
+    array-borrow-prefix-ext
+    slice-aggregate-extend-rows
+    extend-rows-requires
+    array-borrow-prefix-ext-2
+    slice-aggregate-extend-rows-2
+    extend-rows-requires-2
+    add-extend-rows
+    array-borrow-prefix-ext-3
+    slice-aggregate-extend-rows-3
+    extend-rows-requires-3
+    filter-spaced-requires
     same-length
-    same-length-2
     returns)

@@ -56,9 +56,6 @@ row-pass-requires-2 c κs = search needs
 row-pass-requires-3 : tie.Need-row-pass-requires-3
 row-pass-requires-3 c κs = search needs
 
-add-column-pass : tie.Need-add-column-pass
-add-column-pass c = search needs
-
 column-pass-requires : tie.Need-column-pass-requires
 column-pass-requires c κs = search needs
 
@@ -71,9 +68,6 @@ both-passes-requires-2 c κs = search needs
 both-passes-requires-3 : tie.Need-both-passes-requires-3
 both-passes-requires-3 c κs = search needs
 
-add-column-pass-2 : tie.Need-add-column-pass-2
-add-column-pass-2 c = search needs
-
 column-pass-requires-2 : tie.Need-column-pass-requires-2
 column-pass-requires-2 c κs = search needs
 
@@ -85,9 +79,6 @@ both-passes-requires-5 c κs = search needs
 
 both-passes-requires-6 : tie.Need-both-passes-requires-6
 both-passes-requires-6 c κs = search needs
-
-add-column-pass-3 : tie.Need-add-column-pass-3
-add-column-pass-3 c = search needs
 
 column-pass-requires-3 : tie.Need-column-pass-requires-3
 column-pass-requires-3 c κs = search needs
@@ -106,7 +97,7 @@ same-length c = search needs
 
 returns : tie.Need-returns
 returns c =
-    let s = c .before .before .before .before .before .before .before in
+    let s = c .before .before .before .before .before .before in
     rule s 0 0 (lit< tt) (lit< tt) (c .before .before .before .before .match .keys1) (c .before .before .copy-rows .ensures ∙ whole-is s)
 
 same-length-2 : tie.Need-same-length-2
@@ -114,7 +105,7 @@ same-length-2 c = search needs
 
 returns-2 : tie.Need-returns-2
 returns-2 c =
-    let s = c .before .before .before .before .before .before .before in
+    let s = c .before .before .before .before .before .before in
     rule s 1 0 (lit< tt) (lit< tt) (c .before .before .before .before .match .keys2) (c .before .before .row-pass .ensures ∙ across-is s 1)
 
 same-length-3 : tie.Need-same-length-3
@@ -122,7 +113,7 @@ same-length-3 c = search needs
 
 returns-3 : tie.Need-returns-3
 returns-3 c =
-    let s = c .before .before .before .before .before .before .before in
+    let s = c .before .before .before .before .before .before in
     rule s 2 0 (lit< tt) (lit< tt) (c .before .before .before .before .match .keys3) (c .before .before .row-pass2 .ensures ∙ across-is s 2)
 
 same-length-4 : tie.Need-same-length-4
@@ -130,7 +121,7 @@ same-length-4 c = search needs
 
 returns-4 : tie.Need-returns-4
 returns-4 c =
-    let s = c .before .before .before .before .before .before .before in
+    let s = c .before .before .before .before .before .before in
     rule s 3 0 (lit< tt) (lit< tt) (c .before .before .before .before .match .keys4) (c .before .before .row-pass3 .ensures ∙ across-is s 3)
 
 same-length-5 : tie.Need-same-length-5
@@ -138,7 +129,7 @@ same-length-5 c = search needs
 
 returns-5 : tie.Need-returns-5
 returns-5 c =
-    let s = c .before .before .before .before .before .before .before in
+    let s = c .before .before .before .before .before .before in
     rule s 0 1 (lit< tt) (lit< tt) (c .before .before .before .before .match .keys5) (c .before .before .column-pass .ensures ∙ down-is s 1)
 
 same-length-6 : tie.Need-same-length-6
@@ -146,7 +137,7 @@ same-length-6 c = search needs
 
 returns-6 : tie.Need-returns-6
 returns-6 c =
-    let s = c .before .before .before .before .before .before .before in
+    let s = c .before .before .before .before .before .before in
     rule s 1 1 (lit< tt) (lit< tt) (c .before .before .before .before .match .keys6) (c .before .before .both-passes .ensures)
 
 same-length-7 : tie.Need-same-length-7
@@ -154,7 +145,7 @@ same-length-7 c = search needs
 
 returns-7 : tie.Need-returns-7
 returns-7 c =
-    let s = c .before .before .before .before .before .before .before in
+    let s = c .before .before .before .before .before .before in
     rule s 2 1 (lit< tt) (lit< tt) (c .before .before .before .before .match .keys7) (c .before .before .both-passes2 .ensures)
 
 same-length-8 : tie.Need-same-length-8
@@ -162,7 +153,7 @@ same-length-8 c = search needs
 
 returns-8 : tie.Need-returns-8
 returns-8 c =
-    let s = c .before .before .before .before .before .before .before in
+    let s = c .before .before .before .before .before .before in
     rule s 3 1 (lit< tt) (lit< tt) (c .before .before .before .before .match .keys8) (c .before .before .both-passes3 .ensures)
 
 same-length-9 : tie.Need-same-length-9
@@ -170,7 +161,7 @@ same-length-9 c = search needs
 
 returns-9 : tie.Need-returns-9
 returns-9 c =
-    let s = c .before .before .before .before .before .before .before in
+    let s = c .before .before .before .before .before .before in
     rule s 0 2 (lit< tt) (lit< tt) (c .before .before .before .before .match .keys9) (c .before .before .column-pass2 .ensures ∙ down-is s 2)
 
 same-length-10 : tie.Need-same-length-10
@@ -178,7 +169,7 @@ same-length-10 c = search needs
 
 returns-10 : tie.Need-returns-10
 returns-10 c =
-    let s = c .before .before .before .before .before .before .before in
+    let s = c .before .before .before .before .before .before in
     rule s 1 2 (lit< tt) (lit< tt) (c .before .before .before .before .match .keys10) (c .before .before .both-passes4 .ensures)
 
 same-length-11 : tie.Need-same-length-11
@@ -186,7 +177,7 @@ same-length-11 c = search needs
 
 returns-11 : tie.Need-returns-11
 returns-11 c =
-    let s = c .before .before .before .before .before .before .before in
+    let s = c .before .before .before .before .before .before in
     rule s 2 2 (lit< tt) (lit< tt) (c .before .before .before .before .match .keys11) (c .before .before .both-passes5 .ensures)
 
 same-length-12 : tie.Need-same-length-12
@@ -194,7 +185,7 @@ same-length-12 c = search needs
 
 returns-12 : tie.Need-returns-12
 returns-12 c =
-    let s = c .before .before .before .before .before .before .before in
+    let s = c .before .before .before .before .before .before in
     rule s 3 2 (lit< tt) (lit< tt) (c .before .before .before .before .match .keys12) (c .before .before .both-passes6 .ensures)
 
 same-length-13 : tie.Need-same-length-13
@@ -202,7 +193,7 @@ same-length-13 c = search needs
 
 returns-13 : tie.Need-returns-13
 returns-13 c =
-    let s = c .before .before .before .before .before .before .before in
+    let s = c .before .before .before .before .before .before in
     rule s 0 3 (lit< tt) (lit< tt) (c .before .before .before .before .match .keys13) (c .before .before .column-pass3 .ensures ∙ down-is s 3)
 
 same-length-14 : tie.Need-same-length-14
@@ -210,7 +201,7 @@ same-length-14 c = search needs
 
 returns-14 : tie.Need-returns-14
 returns-14 c =
-    let s = c .before .before .before .before .before .before .before in
+    let s = c .before .before .before .before .before .before in
     rule s 1 3 (lit< tt) (lit< tt) (c .before .before .before .before .match .keys14) (c .before .before .both-passes7 .ensures)
 
 same-length-15 : tie.Need-same-length-15
@@ -218,7 +209,7 @@ same-length-15 c = search needs
 
 returns-15 : tie.Need-returns-15
 returns-15 c =
-    let s = c .before .before .before .before .before .before .before in
+    let s = c .before .before .before .before .before .before in
     rule s 2 3 (lit< tt) (lit< tt) (c .before .before .before .before .match .keys15) (c .before .before .both-passes8 .ensures)
 
 same-length-16 : tie.Need-same-length-16
@@ -226,7 +217,7 @@ same-length-16 c = search needs
 
 returns-16 : tie.Need-returns-16
 returns-16 c =
-    let s = c .before .before .before .before .before .before .before in
+    let s = c .before .before .before .before .before .before in
     let e = last-place (s .args .fractions) (s .pre .1) (c .before .before .before .before .match .rest) in
     rule s 3 3 (lit< tt) (lit< tt) e (c .before .before .both-passes9 .ensures)
 
@@ -238,17 +229,14 @@ interpolate-place-spec =
     row-pass-requires
     row-pass-requires-2
     row-pass-requires-3
-    add-column-pass
     column-pass-requires
     both-passes-requires
     both-passes-requires-2
     both-passes-requires-3
-    add-column-pass-2
     column-pass-requires-2
     both-passes-requires-4
     both-passes-requires-5
     both-passes-requires-6
-    add-column-pass-3
     column-pass-requires-3
     both-passes-requires-7
     both-passes-requires-8
