@@ -1,9 +1,11 @@
 -- Told, not believed: the start and the half ring in half mode, summed on windows of a patch and of three grids.
-use Prim.Native.Nat.{ℕ, _+_, _-_, _*_, _/_, _%_, _<_}
+use Prim.Native.Nat.{ℕ, _+_, _-_, _*_, _/_, _%_, _<_, _≤_}
 use mathlib.Core.Bool.{Bool, true, false, not, _&&_, _||_}
 use mathlib.Core.List.{List, foldl}
 use mathlib.Core.Path.{_≡_}
+use lib.IntN.{ℤ}
 use lib.ListN.{length}
+use Rattle.basis.specs.Parts.{above, below}
 use Rattle.refusal.specs.Test.{between}
 use Rattle.record.specs.declared.MotionVector.{MotionVector}
 use Rattle.plane.specs.Reference.{isSide}
@@ -14,7 +16,7 @@ use Rattle.full_search.specs.declared.Scored.{Scored}
 use Rattle.full_search.specs.declared.Target.{Target}
 use Rattle.full_search.specs.Block.{Block, differences, rowByRow}
 use Rattle.full_search.specs.Costs.{consider}
-use Rattle.full_search.specs.Told.{Ready}
+use Rattle.full_search.specs.Told.{Within, Ready}
 use Rattle.full_search.specs.Window.{windowAt}
 use Rattle.search.specs.Range.{vectorIn}
 use Rattle.search.specs.Sub.{stepped, neighbour, ringAt, ring}
@@ -61,6 +63,13 @@ pub record Grids (side : ℕ) (source right under diagonal : List ℕ) : Type 0 
   pub under-fits : length under ≡ gridSize side
   pub diagonal-fits : length diagonal ≡ gridSize side
 
+-- one place of the 3 x 3 around c on them
+pub record GridPlace (side : ℕ) (source right under diagonal : List ℕ) (fcode : ℕ) (c : MotionVector) (n : ℕ) : Type 0 where
+  pub grids : Grids side source right under diagonal
+  pub centre-small : Within 2048 c
+  pub fcode-usable : between 1 7 fcode ≡ true
+  pub place-is : n < 9
+
 -- the sums on the windows are those of the ring around c
 pub record RingSums (side : ℕ) (source right under diagonal : List ℕ) (fcode : ℕ) (c : MotionVector) (sum : MotionVector → ℕ) : Type 0 where
   pub each : (n : ℕ) → n < 9 → (n ≡ 4 → ⊥) → gridSum side source right under diagonal n ≡ sum (neighbour fcode 1 c n)
@@ -73,6 +82,13 @@ pub record RingKept (side : ℕ) (source right under diagonal : List ℕ) (fcode
   pub kept : (sum : MotionVector → ℕ) → RingSums side source right under diagonal fcode c sum → r ≡ foldl (consider sum) b (ring fcode 1 c)
 
 -- ---- the patch
+
+-- a corner's part and a vector's that can be added
+pub record Addable (corner v : ℤ) : Type 0 where
+  pub corner-most : above corner ≤ 4088
+  pub corner-least : below corner ≡ 0
+  pub above-small : above v ≤ 2048
+  pub below-small : below v ≤ 2048
 
 -- a start whose neighbours are not clamped
 pub record FreeStart (source samples : List ℕ) (t : Target) (fcode : ℕ) (v : MotionVector) : Type 0 where

@@ -5,7 +5,6 @@ ghost use mathlib.Core.Bool.{true};
 ghost use mathlib.Core.List.{foldl};
 ghost use Prim.Native.Nat.{_<_, _≤_};
 ghost use lib.IntN.{pos, _+ℤ_, _-ℤ_};
-ghost use Rattle.basis.specs.Parts.{above, below};
 ghost use Rattle.refusal.specs.Test.{between};
 ghost use Rattle.half_sample.specs.Split.{splitHalf};
 ghost use Rattle.half_sample.specs.Ring.{readFrom, ringCorner};
@@ -13,7 +12,7 @@ ghost use Rattle.full_search.specs.Block.{blockOf};
 ghost use Rattle.full_search.specs.Costs.{consider, atCost};
 ghost use Rattle.full_search.specs.Told.{Within, Inside};
 ghost use Rattle.search.specs.Sub.{ring};
-ghost use Rattle.search.specs.ToldGrids.{halfSum, free, windowOf, gridSum, Grids, PlaceKept, RingKept, FreeStart, PatchAreas};
+ghost use Rattle.search.specs.ToldGrids.{halfSum, free, windowOf, gridSum, Grids, GridPlace, PlaceKept, RingKept, Addable, FreeStart, PatchAreas};
 use crate::range;
 use crate::sub;
 use full_search::Scored;
@@ -87,7 +86,7 @@ fn grid_place(
     n: usize,
     b: Scored,
 ) -> Scored
-    requires { ⌜ Grids side (now source) (now right) (now under) (now diagonal) × Within 2048 c × (between 1 7 fcode ≡ true) × (n < 9) ⌝ }
+    requires { ⌜ GridPlace side (now source) (now right) (now under) (now diagonal) fcode c n ⌝ }
     ensures { λ r. ⌜ PlaceKept side (now (source .entry)) (now (right .entry)) (now (under .entry)) (now (diagonal .entry)) fcode c n b r ⌝ }
 {
     if n == 4 {
@@ -120,7 +119,7 @@ fn grid_ring(
 }
 
 fn before(corner: i32, v: i32) -> i32
-    requires { ⌜ (above corner ≤ 4088) × (below corner ≡ 0) × (above v ≤ 2048) × (below v ≤ 2048) ⌝ }
+    requires { ⌜ Addable corner v ⌝ }
     ensures { λ r. ⌜ r ≡ corner +ℤ (splitHalf v .whole -ℤ pos 1) ⌝ }
 {
     let split = half_sample::split_half_pel(v);

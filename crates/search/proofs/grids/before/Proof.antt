@@ -29,7 +29,7 @@ module _ (s : tie.Start) where
       let z = shrZ (s .args .v) 2 in
       let a = above-shr (s .args .v) 2 in
       let b = below-shr (s .args .v) 1 in
-      parts-fit half (omega (arith, s .pre .2, a, above-sub z (pos 1))) (omega (arith, s .pre .3, b, below-sub z (pos 1)))
+      parts-fit half (omega (arith, s .pre .above-small, a, above-sub z (pos 1))) (omega (arith, s .pre .below-small, b, below-sub z (pos 1)))
 
   sum-fits : SFits w32 sum
   sum-fits =
@@ -37,8 +37,8 @@ module _ (s : tie.Start) where
       let a = above-shr (s .args .v) 2 in
       let b = below-shr (s .args .v) 1 in
       parts-fit sum
-      (omega (arith, s .pre .0, s .pre .2, a, above-sub z (pos 1), above-add (s .args .corner) half))
-      (omega (arith, s .pre .1, s .pre .3, b, below-sub z (pos 1), below-add (s .args .corner) half))
+      (omega (arith, s .pre .corner-most, s .pre .above-small, a, above-sub z (pos 1), above-add (s .args .corner) half))
+      (omega (arith, s .pre .corner-least, s .pre .below-small, b, below-sub z (pos 1), below-add (s .args .corner) half))
 
 -- what the machine takes away, and what it adds
 module _ (c : tie.After-split-half-pel) where

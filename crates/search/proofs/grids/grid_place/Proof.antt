@@ -30,7 +30,7 @@ returns-2 c =
       kept =
           λ sum s.
           ring-turn sum (a .fcode) 1 (a .c) (a .n) (a .b) (c .consider .result) (v .neighbour .result) (k .grid-sum .result) (e .if1 .left)
-          (v .neighbour .ensures) (k .grid-sum .ensures ∙ s .each (a .n) (b .pre .3) (e .if1 .left) ∙ ap sum (sym (v .neighbour .ensures)))
+          (v .neighbour .ensures) (k .grid-sum .ensures ∙ s .each (a .n) (b .pre .place-is) (e .if1 .left) ∙ ap sum (sym (v .neighbour .ensures)))
           (c .consider .ensures);
     }
 

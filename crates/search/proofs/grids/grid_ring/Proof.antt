@@ -30,7 +30,7 @@ grid-place-requires : tie.Need-grid-place-requires Inv-loop μ-loop
 grid-place-requires c κs =
     let l = c .before in
     let s = l .before .before .before .before .before .before in
-    (s .pre .0, s .pre .1, s .pre .2, l .loop-test .taken)
+    record { grids = s .pre .0; centre-small = s .pre .1; fcode-usable = s .pre .2; place-is = l .loop-test .taken }
 
 add-n : tie.Need-add-n Inv-loop μ-loop
 add-n c = search needs
