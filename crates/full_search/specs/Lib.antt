@@ -6,3 +6,4 @@ pub mod Won
 pub mod Told
 pub mod ToldKept
 pub mod ToldPatch
+pub mod Window

@@ -1,8 +1,10 @@
 // The full-sample search: of a 16 x 16 block, and of an 8 x 8 block around a seed; and the sum of absolute differences of two blocks.
 ghost use mathlib.Core.Path.{_≡_};
+ghost use Prim.Native.Nat.{_-_};
 ghost use Rattle.full_search.specs.Costs.{consider};
 ghost use Rattle.full_search.specs.Won.{windowReply, placedReply, squareReply, sixteenReply, seedSizeReply, eightReply, sumReply};
 ghost use Rattle.full_search.specs.Won.{refusedWon, sixteenWon, eightWon, sumOf};
+ghost use Rattle.full_search.specs.Window.{windowSumReply, windowSumOf};
 use plane::Geometry;
 use plane::Point;
 use prediction::BVopSampleMode;
@@ -201,5 +203,37 @@ pub fn block_sum(source: &[u8], predicted: &[u8], side: usize) -> u32
     match sum_reply(source.len(), predicted.len(), side) {
         Reply::Refused(_) => 0,
         Reply::Done => sums::block(source, side, predicted, 0, side, side),
+    }
+}
+
+// What is left of n, and 0 where it is less.
+fn rest(n: usize, taken: usize) -> usize
+    ensures { λ r. ⌜ r ≡ n - taken ⌝ }
+{
+    if n < taken { 0 } else { n - taken }
+}
+
+// 14, 12; 5: the window from `at` on is judged as a reference that is so wide and so high
+fn window_sum_reply(area: usize, bytes: usize, at: usize, stride: usize, side: usize) -> Reply
+    ensures { λ r. ⌜ r ≡ windowSumReply area bytes at stride side ⌝ }
+{
+    let square = Geometry {
+        width: side,
+        height: side,
+        stride,
+    };
+    let last = plane::reference_bytes_reply(square, rest(bytes, at));
+    let second = refusal::and_then(plane::length_reply(area, side, side), last);
+    refusal::and_then(plane::side_reply(side, side), second)
+}
+
+// The sum of absolute differences of a block of side 8 or 16, row by row, and the one that stands at `at` in a window whose rows are
+// `stride` samples apart; 0 where there are no such blocks.
+pub fn window_sum(source: &[u8], window: &[u8], at: usize, stride: usize, side: usize) -> u32
+    ensures { λ r. ⌜ r ≡ windowSumOf (now (source .entry)) (now (window .entry)) at stride side ⌝ }
+{
+    match window_sum_reply(source.len(), window.len(), at, stride, side) {
+        Reply::Refused(_) => 0,
+        Reply::Done => sums::block(source, side, window, at, stride, side),
     }
 }

@@ -1,6 +1,6 @@
 // Prediction of a block from a reference plane by a vector in half samples (7.6.2.1).
 ghost use mathlib.Core.Path.{_≡_};
-ghost use mathlib.Core.Bool.{true};
+ghost use mathlib.Core.Bool.{true, false};
 ghost use Prim.Native.Nat.{_%_, _<_};
 ghost use lib.IntN.{pos, negsuc};
 ghost use lib.ListN.{length};
@@ -12,6 +12,7 @@ ghost use Rattle.plane.specs.Reference.{blockReply};
 ghost use Rattle.half_sample.specs.Split.{splitHalf};
 ghost use Rattle.half_sample.specs.Average.{average2Of, average4Of, pixelOf};
 ghost use Rattle.half_sample.specs.Block.{halfBlock};
+ghost use Rattle.half_sample.specs.Ring.{ringReply, ringGrid};
 ghost use Rattle.half_sample.specs.ToldStart.{StartsAt};
 use plane::Geometry;
 use plane::Point;
@@ -19,6 +20,7 @@ use plane::Site;
 use record::MotionVector;
 use refusal::Reply;
 
+mod ring;
 mod rows;
 
 // A vector component: whole samples, and whether half a sample is left.
@@ -136,6 +138,34 @@ pub fn interpolate_block_into(
         Reply::Refused(why) => Reply::Refused(why),
         Reply::Done => {
             interpolate_ready(samples, geometry, site, vector, rounding, out);
+            Reply::Done
+        }
+    }
+}
+
+// The samples half a sample from those of a patch whose rows are `stride` samples long: to the right, below, and both. Its rows are taken
+// as one line, so that some entries lie between a row's end and the next row: 12.
+pub fn interpolate_ring_into(
+    patch: &[u8],
+    stride: usize,
+    rounding: u8,
+    right: &mut [u8],
+    below: &mut [u8],
+    between: &mut [u8],
+) -> Reply
+    ensures { λ r. ⌜ r ≡ ringReply (length (now (patch .entry))) stride (length (now (right .entry))) (length (now (below .entry))) (length (now (between .entry))) ⌝ }
+    ensures { λ r. ⌜ now (right .exit)
+        ≡ done r (ringGrid (now (patch .entry)) stride true false rounding (length (now (right .entry)))) (now (right .entry)) ⌝ }
+    ensures { λ r. ⌜ now (below .exit)
+        ≡ done r (ringGrid (now (patch .entry)) stride false true rounding (length (now (right .entry)))) (now (below .entry)) ⌝ }
+    ensures { λ r. ⌜ now (between .exit)
+        ≡ done r (ringGrid (now (patch .entry)) stride true true rounding (length (now (right .entry)))) (now (between .entry)) ⌝ }
+{
+    let reply = ring::ring_reply(patch.len(), stride, right.len(), below.len(), between.len());
+    match reply {
+        Reply::Refused(why) => Reply::Refused(why),
+        Reply::Done => {
+            ring::ring_ready(patch, stride, rounding, right, below, between);
             Reply::Done
         }
     }

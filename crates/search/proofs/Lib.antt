@@ -2,6 +2,7 @@ pub mod Answered
 pub mod Demanded
 pub mod Eights
 pub mod Ends
+pub mod GridSums
 pub mod InRange
 pub mod Judge
 pub mod PredictedSums

@@ -5,3 +5,4 @@ pub mod Request
 pub mod Estimate
 pub mod Demand
 pub mod Told
+pub mod ToldGrids

@@ -25,6 +25,7 @@ use record::MotionVector;
 use refusal::Refusal;
 use refusal::Reply;
 
+mod grids;
 mod range;
 mod sub;
 

@@ -6,16 +6,19 @@ ghost use Prim.Native.Nat.{_*_, _/_, _<_, _≤_};
 ghost use lib.IntN.{pos, _*ℤ_};
 ghost use lib.ListN.{length};
 ghost use Rattle.basis.specs.Parts.{above, below};
+ghost use Rattle.prediction.specs.declared.BVopSampleMode.the-variants.{HalfPel};
 ghost use Rattle.prediction.specs.Luma.{unitsPerPel};
 ghost use Rattle.refusal.specs.Test.{between};
-ghost use Rattle.full_search.specs.Costs.{consider};
+ghost use Rattle.full_search.specs.Costs.{consider, atCost};
 ghost use Rattle.full_search.specs.Block.{blockOf};
 ghost use Rattle.full_search.specs.Told.{Within, Ready};
 ghost use Rattle.search.specs.Range.{vectorIn};
 ghost use Rattle.search.specs.Sums.{vectorSum};
 ghost use Rattle.search.specs.Sub.{stepped, neighbour, ringAt, ring, start, refined};
+ghost use Rattle.search.specs.ToldGrids.{beside};
 ghost use Rattle.search.specs.Told.{Set, Predictable, Stepping, Neighbouring, Ringed};
 use crate::SearchSettings;
+use crate::grids;
 use crate::range;
 use full_search::Scored;
 use full_search::Target;
@@ -80,15 +83,23 @@ fn stepped(z: i32, step: usize, k: usize) -> i32
     z + (step * k) as i32 - step as i32
 }
 
+// Place n of the 3 x 3 around c, not clamped.
+pub fn beside(c: MotionVector, step: usize, n: usize) -> MotionVector
+    requires { ⌜ Within 4096 c × (step ≤ 2) × (n < 9) ⌝ }
+    ensures { λ r. ⌜ r ≡ beside step c n ⌝ }
+{
+    MotionVector {
+        x: stepped(c.x, step, n % 3),
+        y: stepped(c.y, step, n / 3),
+    }
+}
+
 // Place n of the 3 x 3 around c.
-fn neighbour(c: MotionVector, fcode: u32, step: usize, n: usize) -> MotionVector
+pub fn neighbour(c: MotionVector, fcode: u32, step: usize, n: usize) -> MotionVector
     requires { ⌜ Neighbouring c fcode step n ⌝ }
     ensures { λ r. ⌜ r ≡ neighbour fcode step c n ⌝ }
 {
-    let moved = MotionVector {
-        x: stepped(c.x, step, n % 3),
-        y: stepped(c.y, step, n / 3),
-    };
+    let moved = beside(c, step, n);
     range::clamped(moved, fcode)
 }
 
@@ -140,23 +151,69 @@ fn ring_search(
     b
 }
 
-// The eight half a sample away.
-fn half_ring(
+// The best of a vector and the ring around it.
+fn ring_best(
     source: &[u8],
     reference: &[u8],
     target: Target,
     settings: SearchSettings,
-    best: Scored,
+    step: usize,
+    vector: MotionVector,
 ) -> Scored
-    requires { ⌜ Ready (now source) (now reference) target × Set settings × (vectorIn (settings .fcode) (best .vector) ≡ true) ⌝ }
+    requires { ⌜ Ringed (now source) (now reference) target settings step vector ⌝ }
     ensures { λ r. ⌜ (
         let sum = vectorSum settings (blockOf (now (source .entry)) (now (reference .entry)) target) in
-        r ≡ foldl (consider sum) best (ring (settings .fcode) (unitsPerPel (settings .mode) / 2) (best .vector))
+        r ≡ foldl (consider sum) (atCost sum vector) (ring (settings .fcode) step vector)
+        ) ⌝ }
+{
+    let cost = vector_sum(source, reference, target, settings, vector);
+    let first = Scored { vector, cost };
+    ring_search(source, reference, target, settings, step, first)
+}
+
+// In half mode, by way of grids wherever the start allows it.
+fn half_mode_best(
+    source: &[u8],
+    reference: &[u8],
+    target: Target,
+    settings: SearchSettings,
+    vector: MotionVector,
+) -> Scored
+    requires { ⌜ Ringed (now source) (now reference) target settings 1 vector × (settings .mode ≡ HalfPel) ⌝ }
+    ensures { λ r. ⌜ (
+        let sum = vectorSum settings (blockOf (now (source .entry)) (now (reference .entry)) target) in
+        r ≡ foldl (consider sum) (atCost sum vector) (ring (settings .fcode) 1 vector)
+        ) ⌝ }
+{
+    let fcode = settings.fcode;
+    let rounding = settings.rounding;
+    if grids::is_free(vector, fcode) {
+        return grids::half_best(source, reference, target, rounding, fcode, vector);
+    }
+    ring_best(source, reference, target, settings, 1, vector)
+}
+
+// The best of a start and the eight half a sample around it.
+fn half_best(
+    source: &[u8],
+    reference: &[u8],
+    target: Target,
+    settings: SearchSettings,
+    vector: MotionVector,
+) -> Scored
+    requires { ⌜ Ready (now source) (now reference) target × Set settings × (vectorIn (settings .fcode) vector ≡ true) ⌝ }
+    ensures { λ r. ⌜ (
+        let sum = vectorSum settings (blockOf (now (source .entry)) (now (reference .entry)) target) in
+        r ≡ foldl (consider sum) (atCost sum vector) (ring (settings .fcode) (unitsPerPel (settings .mode) / 2) vector)
         ) ⌝ }
 {
     let mode = settings.mode;
-    let step = range::units_per_pel(mode) / 2;
-    ring_search(source, reference, target, settings, step, best)
+    match mode {
+        BVopSampleMode::HalfPel => half_mode_best(source, reference, target, settings, vector),
+        BVopSampleMode::QuarterPel(_) => {
+            ring_best(source, reference, target, settings, 2, vector)
+        }
+    }
 }
 
 fn scaled(z: i32, units: usize) -> i32
@@ -197,9 +254,7 @@ pub fn refine_subpel(
 {
     let d = winner.vector;
     let vector = start(d, settings);
-    let cost = vector_sum(source, reference, target, settings, vector);
-    let first = Scored { vector, cost };
-    let half = half_ring(source, reference, target, settings, first);
+    let half = half_best(source, reference, target, settings, vector);
     let mode = settings.mode;
     match mode {
         BVopSampleMode::HalfPel => half,

@@ -5,15 +5,13 @@ use mathlib.Core.Bool.{true}
 use mathlib.Core.List.{List, foldl}
 use mathlib.Core.Path.{_≡_, ap, _∙_}
 use Rattle.record.specs.declared.MotionVector.{MotionVector}
-use Rattle.plane.specs.Reference.{vectorInRange}
 use Rattle.prediction.specs.Luma.{unitsPerPel}
 use Rattle.full_search.specs.declared.Scored.{Scored}
 use Rattle.full_search.specs.Block.{blockOf}
-use Rattle.full_search.specs.Costs.{scored, consider, atCost}
+use Rattle.full_search.specs.Costs.{consider, atCost}
 use Rattle.search.specs.Range.{vectorIn}
 use Rattle.search.specs.Sums.{vectorSum}
 use Rattle.search.specs.Sub.{ring, start}
-use Rattle.search.proofs.InRange.{in-interpolation}
 use Rattle.search.proofs.Refined.{halfKept, refine-half, refine-quarter, ring-best-in, start-in}
 use borrow.Author.Needs.{needs}
 use Rattle.search.proofs.sub.refine_subpel.Statement.{statement}
@@ -34,36 +32,22 @@ module _ (s : tie.Start) where
   abbrev around : MotionVector → List MotionVector
   around v = let t = s .args .settings in ring (t .fcode) (unitsPerPel (t .mode) / 2) v
 
-abbrev startAt : tie.After-half-ring → tie.Start
-startAt c = c .before .before .before .before .before .before
+abbrev startAt : tie.After-half-best → tie.Start
+startAt c = c .before .before .before .before .before
 
-half-is : (c : tie.After-half-ring) → let s = startAt c in c .half-ring .result ≡ halfKept (sumOf s) (s .args .settings) (s .args .winner .vector)
+half-is : (c : tie.After-half-best) → let s = startAt c in c .half-best .result ≡ halfKept (sumOf s) (s .args .settings) (s .args .winner .vector)
 half-is c =
-    let n = c .before in
-    let b = n .before in
     let s = startAt c in
-    let v = b .start .result in
-    c .half-ring .ensures ∙ ap (λ (k : ℕ). foldl (consider (sumOf s)) (scored v k) (around s v)) (n .vector-sum .ensures)
-    ∙ ap (λ (w : MotionVector). foldl (consider (sumOf s)) (atCost (sumOf s) w) (around s w)) (b .start .ensures)
+    c .half-best .ensures
+    ∙ ap (λ (w : MotionVector). foldl (consider (sumOf s)) (atCost (sumOf s) w) (around s w)) (c .before .start .ensures)
 
 start-requires : tie.Need-start-requires
 start-requires c κs = search needs
 
-vector-sum-requires : tie.Need-vector-sum-requires
-vector-sum-requires c κs =
+half-best-requires : tie.Need-half-best-requires
+half-best-requires c κs =
     let s = c .before .before .before .before in
-    let t = s .args .settings in
-    record {
-      ready = s .pre .0;
-      mode-usable = s .pre .1 .mode-usable;
-      vector-in = ap vectorInRange (c .start .ensures) ∙ in-interpolation (t .fcode) (begun s) (s .pre .1 .fcode-usable) (begun-in s);
-    }
-
-half-ring-requires : tie.Need-half-ring-requires
-half-ring-requires c κs =
-    let b = c .before in
-    let s = b .before .before .before .before in
-    (s .pre .0, s .pre .1, ap (vectorIn (s .args .settings .fcode)) (b .start .ensures) ∙ begun-in s)
+    (s .pre .0, s .pre .1, ap (vectorIn (s .args .settings .fcode)) (c .start .ensures) ∙ begun-in s)
 
 enum-told : tie.Need-enum-told
 enum-told c = search needs
@@ -80,7 +64,7 @@ ring-search-requires c κs =
       ready = s .pre .0;
       settings = s .pre .1;
       step-small = omega arith;
-      centre-in = ring-best-in (sumOf s) (t .fcode) (unitsPerPel (t .mode) / 2) (begun s) (h .half-ring .result) (half-is h) (begun-in s);
+      centre-in = ring-best-in (sumOf s) (t .fcode) (unitsPerPel (t .mode) / 2) (begun s) (h .half-best .result) (half-is h) (begun-in s);
     }
 
 returns : tie.Need-returns
@@ -105,8 +89,7 @@ refine-subpel-spec =
     tie.close
     (tie.spec
     start-requires
-    vector-sum-requires
-    half-ring-requires
+    half-best-requires
     enum-told
     enum-told-2
     ring-search-requires
