@@ -21,7 +21,8 @@ struct area {
 
 static struct area areas[MOST];
 static int used;
-static const uint8_t *at, *end;
+/* The file, the call that is made, the next of its slots, and its next answer. */
+static const uint8_t *at, *end, *call, *slot, *answer;
 
 static void stop(const char *why)
 {
@@ -29,14 +30,19 @@ static void stop(const char *why)
     exit(1);
 }
 
-static uint64_t number(size_t size)
+static uint64_t number(const uint8_t **from, size_t size)
 {
     uint64_t n = 0;
-    if ((size_t)(end - at) < size)
+    if ((size_t)(end - *from) < size)
         stop("the calls end early");
     for (; size > 0; size--)
-        n = n << 8 | *at++;
+        n = n << 8 | *(*from)++;
     return n;
+}
+
+static uint64_t next_slot(void)
+{
+    return number(&slot, 8);
 }
 
 /* An element in the machine's own order. */
@@ -59,38 +65,71 @@ static uint8_t *area(size_t count, size_t size, const uint8_t *from, int lent)
     return a->store + GUARD;
 }
 
-static void *lends(size_t count, size_t size)
+/* The two slots of an area: where it stands, and how many elements it has. */
+static const uint8_t *placed(size_t *count)
 {
-    return area(count, size, NULL, 1);
+    uint64_t place = next_slot();
+    *count = (size_t)next_slot();
+    if (place > (uint64_t)(end - call))
+        stop("an area past the end");
+    return call + place;
 }
 
-static void *filled(size_t count, size_t size, int lent)
+static void *lends(size_t *count, size_t size)
 {
-    uint8_t *first = area(count, size, at, lent);
-    for (size_t i = 0; i < count; i++)
-        put(first + i * size, size, number(size));
+    placed(count);
+    return area(*count, size, NULL, 1);
+}
+
+static void *filled(size_t *count, size_t size, int lent)
+{
+    const uint8_t *from = placed(count);
+    uint8_t *first = area(*count, size, from, lent);
+    for (size_t i = 0; i < *count; i++)
+        put(first + i * size, size, number(&from, size));
     return first;
 }
 
-static void *reads(size_t count, size_t size)
+static void *reads(size_t *count, size_t size)
 {
     return filled(count, size, 0);
+}
+
+static void declared(size_t count, size_t n)
+{
+    if (count != n)
+        stop("an area of another length than declared");
+}
+
+/* The same with n elements. */
+static void *lends_all(size_t n, size_t size)
+{
+    size_t count;
+    void *first = lends(&count, size);
+    declared(count, n);
+    return first;
+}
+
+static void *filled_all(size_t n, size_t size, int lent)
+{
+    size_t count;
+    void *first = filled(&count, size, lent);
+    declared(count, n);
+    return first;
 }
 
 /* Whether an area holds the elements that stand in the file from `from` on, or 0xa5 where it is NULL. */
 static int holds(const struct area *a, const uint8_t *from)
 {
     uint8_t element[8];
-    const uint8_t *first = a->store + GUARD, *back = at;
+    const uint8_t *first = a->store + GUARD;
     int same = 1;
     memset(element, FILL, sizeof element);
-    at = from;
     for (size_t i = 0; i < a->count; i++) {
         if (from != NULL)
-            put(element, a->size, number(a->size));
+            put(element, a->size, number(&from, a->size));
         same &= memcmp(first + i * a->size, element, a->size) == 0;
     }
-    at = back;
     return same;
 }
 
@@ -103,30 +142,29 @@ static int guarded(const struct area *a)
     return same;
 }
 
-/* Holds all areas to the answer that follows in the file, and gives them back. */
+/* Holds all areas to the answer, which stands in their order, and gives them back. */
 static int answered(uint8_t reply)
 {
     int same = 1;
     for (int i = 0; i < used; i++) {
         struct area *a = &areas[i];
-        const uint8_t *answer = a->lent && reply == 0 ? at : a->from;
-        same &= holds(a, answer) && guarded(a);
+        same &= holds(a, a->lent && reply == 0 ? answer : a->from) && guarded(a);
         if (a->lent && reply == 0)
-            at += a->count * a->size;
+            answer += a->count * a->size;
         free(a->store);
     }
     used = 0;
     return same;
 }
 
-#define U8(x) uint8_t x = (uint8_t)number(1)
-#define U32(x) uint32_t x = (uint32_t)number(4)
-#define I32(x) int32_t x = (int32_t)(uint32_t)number(4)
-#define SIZE(x) size_t x = (size_t)number(8)
-#define READS(type, x) size_t x##_len = (size_t)number(4); const type *x = reads(x##_len, sizeof(type))
-#define READS_ALL(type, x, n) const type *x = reads(n, sizeof(type))
-#define LENDS(type, x) size_t x##_len = (size_t)number(4); type *x = lends(x##_len, sizeof(type))
-#define LENDS_ALL(type, x, n) type *x = lends(n, sizeof(type))
+#define U8(x) uint8_t x = (uint8_t)next_slot()
+#define U32(x) uint32_t x = (uint32_t)next_slot()
+#define I32(x) int32_t x = (int32_t)(uint32_t)next_slot()
+#define SIZE(x) size_t x = (size_t)next_slot()
+#define READS(type, x) size_t x##_len; const type *x = reads(&x##_len, sizeof(type))
+#define READS_ALL(type, x, n) const type *x = filled_all(n, sizeof(type), 0)
+#define LENDS(type, x) size_t x##_len; type *x = lends(&x##_len, sizeof(type))
+#define LENDS_ALL(type, x, n) type *x = lends_all(n, sizeof(type))
 #define REFERENCE READS(uint8_t, samples); SIZE(width); SIZE(height); SIZE(stride)
 #define SEARCHED READS(uint8_t, reference); SIZE(ref_width); SIZE(ref_height); SIZE(stride)
 #define PLACE SIZE(width); SIZE(height); SIZE(column); SIZE(row)
@@ -342,7 +380,10 @@ static uint8_t next_place(void)
 
 static uint8_t step(void)
 {
-    uint64_t *run = filled(5, sizeof *run, 1);
+    uint64_t *run = filled_all(5, sizeof *run, 1);
+    size_t after;
+    placed(&after);
+    declared(after, 5);
     SETTINGS; SEARCHED; PLANES; SIZE(width); SIZE(height); READS(uint8_t, weights); PREDICTION;
     EVENTS; RECORD;
     return hencouch_step(run, fcode, mode, bits_per_pixel, quantiser, first_method, vectors, scan,
@@ -401,22 +442,28 @@ static struct entry entries[] = {
 
 enum { ENTRIES = sizeof entries / sizeof entries[0] };
 
-/* The call whose number is read next; 0 ends the file. */
-static int replay(int call)
+/* The call whose length is read next; 0 ends the file. */
+static int replay(int made)
 {
-    uint8_t which = (uint8_t)number(1);
-    if (which == 0)
+    size_t len = (size_t)number(&at, 4);
+    if (len == 0)
         return 0;
-    if (which > ENTRIES)
+    if ((size_t)(end - at) < len)
+        stop("the calls end early");
+    call = slot = at;
+    at += len;
+    uint8_t which = (uint8_t)number(&slot, 1), wanted = (uint8_t)number(&slot, 1);
+    answer = call + number(&slot, 4);
+    if (which == 0 || which > ENTRIES || answer > at)
         stop("a call of no entry");
     struct entry *e = &entries[which - 1];
-    uint8_t reply = e->call(), wanted = (uint8_t)number(1);
+    uint8_t reply = e->call();
     if (answered(wanted) && reply == wanted) {
         e->equal++;
         e->refused += reply != 0;
     } else {
         e->different++;
-        printf("call %d differs: %s, reply %d, wanted %d\n", call, e->name, reply, wanted);
+        printf("call %d differs: %s, reply %d, wanted %d\n", made, e->name, reply, wanted);
     }
     return 1;
 }
@@ -438,19 +485,19 @@ static uint8_t *whole(const char *name, size_t *len)
 int main(int count, char **words)
 {
     size_t len;
-    int bad = 0, call = 1;
+    int bad = 0, made = 1;
     if (count != 2)
         stop("one word: the file of calls");
     at = whole(words[1], &len);
     end = at + len;
-    while (replay(call))
-        call++;
+    while (replay(made))
+        made++;
     bad |= at != end;
     for (int i = 0; i < ENTRIES; i++) {
         struct entry *e = &entries[i];
         printf("%s: %d equal, %d of them refused\n", e->name, e->equal, e->refused);
         bad |= e->different != 0 || e->equal == 0;
     }
-    printf("%d calls%s\n", call - 1, bad ? ": DIFFERENT" : "");
+    printf("%d calls%s\n", made - 1, bad ? ": DIFFERENT" : "");
     return bad;
 }

@@ -1,7 +1,7 @@
 //! Writes stored calls, each with the original Rust's answer: `stored HEADER FILE`. The header says
 //! which entries there are, in which order, and what each takes; docs/STORED.md says how a call
 //! stands in the file. Nothing of the port is asked: what the Rust has no function for is written
-//! out here, from document 01.
+//! out here, from the rules.
 
 include!("modules.rs");
 
@@ -45,7 +45,7 @@ fn main() {
     let text = std::fs::read_to_string(header).expect("the header");
     let all: Vec<Written> = header::entries(&text).iter().map(written).collect();
     let mut bytes: Vec<u8> = all.iter().flat_map(|w| w.bytes.iter().copied()).collect();
-    bytes.push(0);
+    bytes.extend([0; 4]);
     std::fs::write(file, &bytes).expect("the file of calls");
     for w in &all {
         println!("{:<27} {:>4} calls {:>4} refused {:>7} bytes", w.name, w.calls, w.refusals, w.bytes.len());

@@ -1,5 +1,5 @@
 //! The originals' answers to calls with nothing wrong, by the header's names. What the originals
-//! have no function for is written out from document 01: copied blocks, luma prediction in either
+//! have no function for is written out from the rules: copied blocks, luma prediction in either
 //! mode, `inter_scan`, the run.
 
 use super::call::Call;

@@ -1,7 +1,7 @@
 //! One call: its entry's name and its arguments by the header's names, and how it stands in the
 //! file.
 
-use super::answer::answer;
+use super::answer::{answer, Areas};
 use super::header::{Entry, Kind};
 use super::reasons::reasons;
 use std::collections::BTreeMap;
@@ -68,45 +68,79 @@ impl Call {
 
     /// The call as docs/STORED.md lays it out, with its reply and what it leaves in lent areas.
     pub fn write(&self, entry: &Entry, out: &mut Vec<u8>) {
-        out.push(entry.number);
+        let reply = reasons(self).first().copied().unwrap_or(0);
+        let told = if reply == 0 { answer(self) } else { Areas::new() };
+        let mut laid = Laid::default();
         let mut named = 0;
         for p in &entry.parameters {
             let name = p.name.as_str();
             named += usize::from(!matches!(p.kind, Kind::LentFixed(_)));
+            let after = told.get(name).map(Vec::as_slice);
             match p.kind {
-                Kind::Number => put(self.number(name), p.size, out),
-                Kind::Lent => put(self.lens[name] as i128, 4, out),
-                Kind::LentFixed(_) => {}
-                Kind::Read | Kind::ReadFixed | Kind::Changed => {
-                    if p.kind == Kind::Read {
-                        put(self.area(name).len() as i128, 4, out);
-                    }
-                    self.area(name).iter().for_each(|&x| put(x, p.size, out));
+                Kind::Number => laid.slots.push(Slot::Number(self.number(name))),
+                Kind::Read | Kind::ReadFixed => laid.read(self.area(name), p.size),
+                Kind::Lent => laid.lent(self.lens[name], after, p.size),
+                Kind::LentFixed(n) => laid.lent(n, after, p.size),
+                Kind::Changed => {
+                    laid.read(self.area(name), p.size);
+                    laid.lent(self.area(name).len(), after, p.size);
                 }
             }
         }
         assert_eq!(named, self.numbers.len() + self.areas.len() + self.lens.len(), "{self:?}");
-        self.write_answer(entry, out);
+        laid.write(entry.number, reply, out);
+    }
+}
+
+/// A number, or an area: where it stands among those that are read or among the answers, and how
+/// many elements it has.
+enum Slot {
+    Number(i128),
+    Read(usize, usize),
+    Lent(usize, usize),
+}
+
+/// The parts of a call: its slots, the elements of what is read, and the answers.
+#[derive(Default)]
+struct Laid {
+    slots: Vec<Slot>,
+    areas: Vec<u8>,
+    answers: Vec<u8>,
+}
+
+impl Laid {
+    fn read(&mut self, area: &[i128], size: usize) {
+        self.slots.push(Slot::Read(self.areas.len(), area.len()));
+        area.iter().for_each(|&x| put(x, size, &mut self.areas));
     }
 
-    fn write_answer(&self, entry: &Entry, out: &mut Vec<u8>) {
-        let reply = reasons(self).first().copied().unwrap_or(0);
-        out.push(reply);
-        if reply != 0 {
-            return;
+    fn lent(&mut self, len: usize, after: Option<&[i128]>, size: usize) {
+        self.slots.push(Slot::Lent(self.answers.len(), len));
+        if let Some(area) = after {
+            assert_eq!(area.len(), len, "an answer's length");
+            area.iter().for_each(|&x| put(x, size, &mut self.answers));
         }
-        let told = answer(self);
-        for p in &entry.parameters {
-            let len = match p.kind {
-                Kind::Lent => self.lens[p.name.as_str()],
-                Kind::LentFixed(n) => n,
-                Kind::Changed => 5,
-                _ => continue,
+    }
+
+    /// The length of what follows, the entry's number, the reply, where the answers begin, the
+    /// slots, what is read, the answers.
+    fn write(&self, entry: u8, reply: u8, out: &mut Vec<u8>) {
+        let eights = |slot: &Slot| if matches!(slot, Slot::Number(_)) { 1 } else { 2 };
+        let areas = 6 + 8 * self.slots.iter().map(eights).sum::<usize>();
+        let answers = areas + self.areas.len();
+        put((answers + self.answers.len()) as i128, 4, out);
+        out.extend([entry, reply]);
+        put(answers as i128, 4, out);
+        for slot in &self.slots {
+            let area = match *slot {
+                Slot::Number(number) => [Some(number), None],
+                Slot::Read(at, len) => [Some((areas + at) as i128), Some(len as i128)],
+                Slot::Lent(at, len) => [Some((answers + at) as i128), Some(len as i128)],
             };
-            let area = &told[p.name.as_str()];
-            assert_eq!(area.len(), len, "{} of {}", p.name, self.entry);
-            area.iter().for_each(|&x| put(x, p.size, out));
+            area.into_iter().flatten().for_each(|number| put(number, 8, out));
         }
+        out.extend(&self.areas);
+        out.extend(&self.answers);
     }
 }
 

@@ -1,4 +1,4 @@
-//! Document 01's two lists of what is turned back, over the arguments that a call has: all that
+//! The rules' two lists of what is turned back, over the arguments that a call has: all that
 //! apply, in order. The reply is the first, or 0 where there is none.
 
 use super::call::Call;

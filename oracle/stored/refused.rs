@@ -37,7 +37,8 @@ fn left_out(entry: &str, first: u8, second: u8) -> bool {
     (first, second) == (2, 3) || entry == "step" && first < 21 && [first, second].contains(&6)
 }
 
-/// Entries whose calls are long, and whose parts are entries of their own: two ways a number.
+/// Entries whose calls are long, and whose parts are entries of their own: the first way of
+/// a number and the last.
 const LONG: [&str; 3] = ["quantise_inter_residual", "code_macroblock", "step"];
 
 pub fn calls(entry: &str, sound: &Call) -> Vec<Call> {
@@ -58,8 +59,8 @@ fn alone(sound: &Call, number: u8) -> Vec<Call> {
     let mut all = ways(sound, number);
     all.retain(|call| reasons(call) == [number]);
     assert!(!all.is_empty(), "{number} alone of {}", sound.entry);
-    if LONG.contains(&sound.entry) && number != 12 {
-        all.truncate(2);
+    if LONG.contains(&sound.entry) && number != 12 && all.len() > 2 {
+        all.drain(1..all.len() - 1);
     }
     all
 }

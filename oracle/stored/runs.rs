@@ -54,7 +54,7 @@ pub fn closed() -> Vec<Call> {
 pub fn stepped() -> Vec<Call> {
     let mut random = Random::new(42);
     let one = |turn: usize| {
-        let (c, (column, row)) = coding("step", turn + turn / 9, &mut random);
+        let (c, (column, row)) = coding("step", turn, &mut random);
         let (width, height) = (c.number("width") as u64, c.number("height") as u64);
         let next = row as u64 * width.div_ceil(16) + column as u64;
         let (events, sums) = match turn % 3 {

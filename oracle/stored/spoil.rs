@@ -1,4 +1,4 @@
-//! What can be wrong with a call, one number of document 01's lists at a time: every way that its
+//! What can be wrong with a call, one number of the rules' lists at a time: every way that its
 //! arguments have, each a changed copy of the call.
 
 use super::call::Call;

@@ -6,7 +6,6 @@ use hencouch::{raw, Areas, Refusal};
 pub fn forward_dct_8x8(c: &mut Calls) {
     let residual: Vec<i32> = c.area();
     let length = c.length();
-    c.read_reply();
     let wanted = c.after(length);
     let mut out = lent(length);
     c.replied(raw::forward_dct_8x8(&residual, &mut out));
@@ -21,7 +20,6 @@ pub fn quantise_block(c: &mut Calls) {
     let (quantiser, method): (u32, u8) = (c.number(), c.number());
     let weights: Vec<u8> = c.area();
     let length = c.length();
-    c.read_reply();
     let wanted = c.after(length);
     let mut out = lent(length);
     c.replied(raw::quantise_block(&coefficients, quantiser, method, &weights, &mut out));
@@ -53,7 +51,6 @@ fn by_number(
     let levels: Vec<i32> = c.area();
     let number = c.number();
     let length = c.length();
-    c.read_reply();
     let wanted = c.after(length);
     let mut out = lent(length);
     c.replied(entry(&levels, number, &mut out));
@@ -89,7 +86,6 @@ impl EventsLent {
 pub fn levels_to_events(c: &mut Calls) {
     let levels: Vec<i32> = c.area();
     let lengths = [c.length(), c.length(), c.length()];
-    c.read_reply();
     let wanted = EventsLent::after(c, lengths);
     let [wanted_count] = c.array_after([u8::BEFORE]);
     let (mut e, mut count) = (EventsLent::new(lengths), u8::BEFORE);
@@ -103,7 +99,6 @@ pub fn levels_to_events(c: &mut Calls) {
 
 pub fn inter_scan(c: &mut Calls) {
     let (interlaced, alternate): (u8, u8) = (c.number(), c.number());
-    c.read_reply();
     let [wanted] = c.array_after([u32::BEFORE]);
     let mut scan = u32::BEFORE;
     c.replied(raw::inter_scan(interlaced, alternate, &mut scan));

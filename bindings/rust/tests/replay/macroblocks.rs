@@ -10,7 +10,6 @@ use hencouch::{Settings, Source};
 pub fn intra_activity(c: &mut Calls) {
     let (y, width, height): (Vec<u8>, usize, usize) = (c.area(), c.number(), c.number());
     let place = place(c);
-    c.read_reply();
     let [wanted] = c.array_after([u32::BEFORE]);
     let mut activity = u32::BEFORE;
     let Place { column, row } = place;
@@ -45,7 +44,6 @@ pub fn macroblock_residual(c: &mut Calls) {
     let (width, height, place) = (c.number(), c.number(), place(c));
     let p = Planes::read(c);
     let length = c.length();
-    c.read_reply();
     let wanted = c.after::<i32>(length);
     let mut out = lent(length);
     let Place { column, row } = place;
@@ -93,7 +91,6 @@ impl Residual {
 
 pub fn quantise_inter_block(c: &mut Calls) {
     let r = Residual::read(c);
-    c.read_reply();
     let wanted = EventsLent::after(c, r.lengths);
     let [wanted_count] = c.array_after([u8::BEFORE]);
     let (mut e, mut count) = (EventsLent::new(r.lengths), u8::BEFORE);
@@ -111,7 +108,6 @@ pub fn quantise_inter_block(c: &mut Calls) {
 
 pub fn quantise_inter_residual(c: &mut Calls) {
     let r = Residual::read(c);
-    c.read_reply();
     let wanted = EventsLent::after(c, r.lengths);
     let wanted_counts = c.array_after([u8::BEFORE; 6]);
     let (mut e, mut counts) = (EventsLent::new(r.lengths), [u8::BEFORE; 6]);
@@ -129,7 +125,6 @@ pub fn quantise_inter_residual(c: &mut Calls) {
 
 pub fn inter_cbp(c: &mut Calls) {
     let counts = c.array();
-    c.read_reply();
     let wanted = c.array_after([u8::BEFORE; 2]);
     let mut patterns = [u8::BEFORE; 2];
     c.replied(raw::inter_cbp(&counts, &mut patterns));
@@ -253,7 +248,6 @@ impl RecordLent {
 
 pub fn code_macroblock(c: &mut Calls) {
     let told = Coding::read(c, true);
-    c.read_reply();
     let (wanted, wanted_record) = (EventsLent::after(c, told.lengths), RecordLent::after(c));
     let Coding { numbers: n, plane: r, source: s, prediction: p, .. } = &told;
     let place = told.place.expect("a place was read");

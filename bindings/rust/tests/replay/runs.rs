@@ -11,7 +11,6 @@ fn run_of([width, height, macroblocks, events, sums]: [u64; 5]) -> Run {
 
 pub fn open(c: &mut Calls) {
     let (width, height) = (c.number(), c.number());
-    c.read_reply();
     let wanted = c.array_after([u64::BEFORE; 5]);
     let mut run = [u64::BEFORE; 5];
     c.replied(raw::open(width, height, &mut run));
@@ -21,7 +20,6 @@ pub fn open(c: &mut Calls) {
 
 pub fn next_place(c: &mut Calls) {
     let run = c.array();
-    c.read_reply();
     let wanted = c.array_after([u64::BEFORE; 2]);
     let mut place = [u64::BEFORE; 2];
     c.replied(raw::next_place(&run, &mut place));
@@ -32,8 +30,8 @@ pub fn next_place(c: &mut Calls) {
 
 pub fn step(c: &mut Calls) {
     let before = c.array();
+    assert_eq!(c.length(), before.len());
     let told = Coding::read(c, false);
-    c.read_reply();
     let wanted_run = c.array_after(before);
     let (wanted, wanted_record) = (EventsLent::after(c, told.lengths), RecordLent::after(c));
     let Coding { numbers: n, plane: r, source: s, prediction: p, .. } = &told;
@@ -59,7 +57,6 @@ pub fn step(c: &mut Calls) {
 
 pub fn close(c: &mut Calls) {
     let run = c.array();
-    c.read_reply();
     let wanted = c.array_after([u64::BEFORE; 3]);
     let mut totals = [u64::BEFORE; 3];
     c.replied(raw::close(&run, &mut totals));

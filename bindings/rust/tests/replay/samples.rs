@@ -43,7 +43,6 @@ fn block(c: &mut Calls) -> Block {
 pub fn interpolate_block_into(c: &mut Calls) {
     let (p, b) = (Plane::read(c), block(c));
     let length = c.length();
-    c.read_reply();
     let wanted = c.after(length);
     let mut out = lent(length);
     c.replied(raw::interpolate_block_into(
@@ -60,7 +59,6 @@ pub fn interpolate_block_qpel_into(c: &mut Calls) {
     let (p, b) = (Plane::read(c), block(c));
     let bits = c.number();
     let length = c.length();
-    c.read_reply();
     let wanted = c.after(length);
     let mut out = lent(length);
     c.replied(raw::interpolate_block_qpel_into(
@@ -74,9 +72,8 @@ pub fn interpolate_block_qpel_into(c: &mut Calls) {
 }
 
 pub fn interpolate_pixel(c: &mut Calls) {
-    let around: [u8; 4] = c.array();
+    let around: [u8; 4] = [(); 4].map(|()| c.number());
     let (half_x, half_y, rounding): (u8, u8, u8) = (c.number(), c.number(), c.number());
-    c.read_reply();
     let [wanted] = c.array_after([u8::BEFORE]);
     let [a, b, down, both] = around;
     let mut sample = u8::BEFORE;
@@ -88,7 +85,6 @@ pub fn interpolate_pixel(c: &mut Calls) {
 
 pub fn split_half_pel(c: &mut Calls) {
     let mv = c.number();
-    c.read_reply();
     let ([whole], [half]) = (c.array_after([i32::BEFORE]), c.array_after([u8::BEFORE]));
     let (mut got_whole, mut got_half) = (i32::BEFORE, u8::BEFORE);
     c.replied(raw::split_half_pel(mv, &mut got_whole, &mut got_half));
@@ -98,7 +94,6 @@ pub fn split_half_pel(c: &mut Calls) {
 
 pub fn split_quarter_pel(c: &mut Calls) {
     let mv = c.number();
-    c.read_reply();
     let ([whole], [fraction]) = (c.array_after([i32::BEFORE]), c.array_after([u8::BEFORE]));
     let (mut got_whole, mut got_fraction) = (i32::BEFORE, u8::BEFORE);
     c.replied(raw::split_quarter_pel(mv, &mut got_whole, &mut got_fraction));
@@ -108,7 +103,6 @@ pub fn split_quarter_pel(c: &mut Calls) {
 
 pub fn fetch_clamped(c: &mut Calls) {
     let (p, at) = (Plane::read(c), point(c));
-    c.read_reply();
     let [wanted] = c.array_after([u8::BEFORE]);
     let mut sample = u8::BEFORE;
     let Plane { samples, width, height, stride } = &p;
@@ -121,7 +115,6 @@ pub fn copy_block(c: &mut Calls) {
     let (p, at) = (Plane::read(c), point(c));
     let (block_w, block_h) = (c.number(), c.number());
     let length = c.length();
-    c.read_reply();
     let wanted = c.after(length);
     let mut out = lent(length);
     c.replied(raw::copy_block(
@@ -136,7 +129,6 @@ pub fn copy_block(c: &mut Calls) {
 pub fn predict_luma_block(c: &mut Calls) {
     let (p, m, b) = (Plane::read(c), mode(c), block(c));
     let length = c.length();
-    c.read_reply();
     let wanted = c.after(length);
     let mut out = lent(length);
     c.replied(raw::predict_luma_block(
@@ -153,7 +145,6 @@ pub fn predict_luma_macroblock(c: &mut Calls) {
     let (p, m, v, o) = (Plane::read(c), mode(c), vector(c), point(c));
     let rounding = c.number();
     let length = c.length();
-    c.read_reply();
     let wanted = c.after(length);
     let mut out = lent(length);
     c.replied(raw::predict_luma_macroblock(
@@ -173,7 +164,6 @@ pub fn predict_luma_macroblock_4mv(c: &mut Calls) {
     let o = point(c);
     let rounding = c.number();
     let length = c.length();
-    c.read_reply();
     let wanted = c.after(length);
     let mut out = lent(length);
     c.replied(raw::predict_luma_macroblock_4mv(

@@ -30,7 +30,6 @@ pub fn place(c: &mut Calls) -> Place {
 pub fn source_luma_block(c: &mut Calls) {
     let s = Luma::read(c);
     let length = c.length();
-    c.read_reply();
     let wanted = c.after(length);
     let Place { column, row } = s.place;
     let mut out = lent(length);
@@ -44,7 +43,6 @@ pub fn source_luma_block(c: &mut Calls) {
 pub fn source_chroma_block(c: &mut Calls) {
     let s = Luma::read(c);
     let length = c.length();
-    c.read_reply();
     let wanted = c.after(length);
     let Luma { samples, width, height, place } = s;
     let mut out = lent(length);
@@ -83,7 +81,6 @@ impl Told {
 pub fn estimate_motion(c: &mut Calls) {
     let told = Told::read(c);
     let (vector_len, sum_len) = (c.length(), c.length());
-    c.read_reply();
     let (wanted_vector, wanted_sum) = (c.after::<i32>(vector_len), c.after::<u32>(sum_len));
     let Told { source: s, plane: p, mode: m, fcode } = &told;
     let (mut vector, mut sum) = (lent(vector_len), lent(sum_len));
@@ -104,7 +101,6 @@ pub fn estimate_motion_4mv(c: &mut Calls) {
     let told = Told::read(c);
     let seed = vector(c);
     let (vectors_len, sums_len) = (c.length(), c.length());
-    c.read_reply();
     let (wanted_vectors, wanted_sums) = (c.after::<i32>(vectors_len), c.after::<u32>(sums_len));
     let Told { source: s, plane: p, mode: m, fcode } = &told;
     let (mut vectors, mut sums) = (lent(vectors_len), lent(sums_len));

@@ -1,11 +1,11 @@
--- `compare::zeros_from` meets its contract. Assumes nothing.
+-- `compare::examples::zeros_from` meets its contract. Assumes nothing.
 use Prim.Native.Nat.{_-_, _≤_}
 use native.Mathlib.Omega.{arith}
 use mathlib.Core.Path.{_≡_, refl}
 use lib.ListN.{length}
 use borrow.Author.Needs.{needs}
-use Rattle.compare.proofs.zeros_from.Statement.{statement}
-use Rattle.compare.proofs.zeros_from.Tie as tie
+use Rattle.compare.proofs.examples.zeros_from.Statement.{statement}
+use Rattle.compare.proofs.examples.zeros_from.Tie as tie
 
 abbrev Inv-loop : tie.InvT-loop
 Inv-loop coefficients from all₀ i₀ i-end all i = (i ≤ i-end) × (i-end ≡ length coefficients)
