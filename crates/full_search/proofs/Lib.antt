@@ -11,3 +11,4 @@ pub mod RowSums
 pub mod Shown
 pub mod Sides
 pub mod Taken
+pub mod Whole

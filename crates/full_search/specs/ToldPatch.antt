@@ -1,7 +1,7 @@
 -- Told, not believed: patches of the reference, copied once, on which the code sums and searches.
 use Prim.Native.Nat.{ℕ, _+_, _-_, _*_, _<_, _≤_}
 use mathlib.Core.Bool.{true}
-use mathlib.Core.List.{List}
+use mathlib.Core.List.{List, [], _∷_}
 use mathlib.Core.Path.{_≡_}
 use lib.IntN.{_+ℤ_}
 use lib.ListN.{length, getD}
@@ -15,6 +15,7 @@ use Rattle.full_search.specs.declared.Row.{Row}
 use Rattle.full_search.specs.declared.Scored.{Scored}
 use Rattle.full_search.specs.declared.Target.{Target}
 use Rattle.full_search.specs.Block.{blockIn}
+use Rattle.full_search.specs.Places.{right, distance, rowPlace}
 use Rattle.full_search.specs.Told.{Within}
 use Rattle.full_search.specs.ToldKept.{copiedCost, keptOf, NoMoreThanZero}
 
@@ -36,6 +37,10 @@ RowsFit side apart source = (side - 1) * apart + side ≤ length source
 -- of row j: `side` samples of a source whose rows are `apart` samples apart, against those of a window
 abbrev pub rowSum : ℕ → List ℕ → ℕ → List ℕ → Lines → ℕ → ℕ
 rowSum side source apart window at j = sumTo side (λ i. absDiff (getD source (j * apart + i) 0) (getD window (lineAt at j + i) 0))
+
+-- of rows 2 k and 2 k + 1
+abbrev pub twoRows : ℕ → List ℕ → ℕ → List ℕ → Lines → ℕ → ℕ
+twoRows side source apart window at k = rowSum side source apart window at (2 * k) + rowSum side source apart window at (2 * k + 1)
 
 unfoldable pub linesSum : ℕ → List ℕ → ℕ → List ℕ → Lines → ℕ
 linesSum side source apart window at = sumTo side (rowSum side source apart window at)
@@ -68,6 +73,11 @@ pub record RowReady (side : ℕ) (source patch : List ℕ) (at : Lines) (r : Row
   pub fits : (k : ℕ) → k < r .count → LinesFit side (linesRight at (r .step * k)) patch
   pub from-small : Within 4096 (r .from)
   pub run-small : r .step * r .count ≤ 4096
+
+-- every place of a row is listed, and none of them is zero
+pub record ListedWhole (r : Row) : Type 0 where
+  pub all : (k : ℕ) → k < r .count → rowPlace r k ≡ right (r .from) (r .step * k) ∷ []
+  pub other : (k : ℕ) → k < r .count → distance (right (r .from) (r .step * k)) ≡ 0 → ⊥
 
 -- the columns that a row's places meet
 abbrev pub rowColumns : ℕ → Row → ℕ
