@@ -6,6 +6,7 @@ use mathlib.Core.List.{List, [], _∷_}
 use mathlib.Core.Path.{_≡_, refl, sym, ap, _∙_, subst}
 use Rattle.basis.specs.Lists.{rows}
 use Rattle.record.specs.declared.MotionVector.{MotionVector}
+use Rattle.record.specs.Zero.{zeroVector}
 use Rattle.plane.specs.declared.Point.{Point}
 use Rattle.plane.specs.Plane.{Plane, copiedBlock}
 use Rattle.full_search.specs.declared.Lines.{Lines}
@@ -13,12 +14,13 @@ use Rattle.full_search.specs.declared.Row.{Row}
 use Rattle.full_search.specs.declared.Scored.{Scored}
 use Rattle.full_search.specs.declared.Square.{Square}
 use Rattle.full_search.specs.Block.{blockIn, copiedSum}
-use Rattle.full_search.specs.Costs.{consider}
+use Rattle.full_search.specs.Costs.{zeroDiscount, consider}
 use Rattle.full_search.specs.Places.{right, down, distance, listed, rowPlace, rowOf, squareRow, squareOf}
+use Rattle.full_search.specs.Full.{nearSquare, nearRows}
 use Rattle.full_search.specs.Told.{movedTo}
 use Rattle.full_search.specs.ToldKept.{keptOf, copiedCost, NoMoreThanZero}
-use Rattle.full_search.specs.ToldPatch.{linesSum, linesFrom, Shown, linesRight, rowColumns, KeptOn}
-use Rattle.full_search.proofs.Kept.{pieces-more, kept-small}
+use Rattle.full_search.specs.ToldPatch.{linesSum, linesFrom, Shown, linesRight, rowColumns, KeptOn, NearPatch, MiddleStart, NearKept}
+use Rattle.full_search.proofs.Kept.{pieces-more, kept-small, zero-small}
 use Rattle.full_search.proofs.Listed.{consider-cost, dear-passed, zero-costs, other-costs}
 use Rattle.full_search.proofs.Patches.{strip-shown, patch-shown, narrower, strip-columns}
 use Rattle.full_search.proofs.Shown.{shown-sum, shown-right}
@@ -193,3 +195,26 @@ module _ (side : ℕ) (source patch : List ℕ) (q : Square) (width discount : �
       → b ≡ keptOf (copiedCost discount (blockIn side source p corner)) s (squareOf q)
   unfolding squareOf
   square-all = rows-all side source patch (q .from) width width discount (squareRow q) s (q .count)
+
+-- ---- the square of ±8
+
+-- zero's sum, in the middle of its patch
+pub middle-sum : (source patch : List ℕ) (p : Plane) (corner : Point) → NearPatch patch p corner
+    → linesSum 16 source 16 patch (linesFrom 264 32) ≡ copiedSum (blockIn 16 source p corner) zeroVector
+middle-sum source patch p corner e =
+    shown-sum 16 p corner zeroVector source patch (linesFrom 264 32)
+    (shown-right 16 p corner (down (nearSquare .from) 8) patch (record { first = 8 * 32; stride = 32 }) 32 8 16 (omega arith)
+    (patch-shown p corner (nearSquare .from) 32 32 16 8 patch (omega arith) e))
+
+-- what all its rows keep that begin with zero
+pub near-all : (source patch : List ℕ) (z : Scored) (j : ℕ) (b : Scored) → MiddleStart source patch z → j ≡ 17
+    → SquareKept 16 source patch nearSquare 32 zeroDiscount z j b → NearKept source patch b
+near-all source patch z j b m e k =
+    record {
+      kept =
+          λ p corner held.
+          let cost = copiedCost zeroDiscount (blockIn 16 source p corner) in
+          let zero = m .start p corner held in
+          square-all 16 source patch nearSquare 32 zeroDiscount z j b e k p corner held (zero-small cost z zero)
+          ∙ ap (λ (s : Scored). keptOf cost s nearRows) zero;
+    }

@@ -7,6 +7,7 @@ use lib.IntN.{_+ℤ_}
 use lib.ListN.{length, getD}
 use Rattle.basis.specs.Sums.{sumTo, absDiff}
 use Rattle.record.specs.declared.MotionVector.{MotionVector}
+use Rattle.record.specs.Zero.{zeroVector}
 use Rattle.plane.specs.declared.Point.{Point}
 use Rattle.plane.specs.Plane.{Plane, planeOf, copied, copiedBlock}
 use Rattle.plane.specs.Reference.{isSide}
@@ -15,9 +16,11 @@ use Rattle.full_search.specs.declared.Row.{Row}
 use Rattle.full_search.specs.declared.Scored.{Scored}
 use Rattle.full_search.specs.declared.Target.{Target}
 use Rattle.full_search.specs.Block.{blockIn}
+use Rattle.full_search.specs.Costs.{zeroDiscount, atCost}
 use Rattle.full_search.specs.Places.{right, distance, rowPlace}
-use Rattle.full_search.specs.Told.{Within}
-use Rattle.full_search.specs.ToldKept.{copiedCost, keptOf, NoMoreThanZero}
+use Rattle.full_search.specs.Full.{nearSquare, nearRows}
+use Rattle.full_search.specs.Told.{Within, movedTo}
+use Rattle.full_search.specs.ToldKept.{copiedCost, keptOf, found, NoMoreThanZero}
 
 abbrev pub linesFrom : ℕ → ℕ → Lines
 linesFrom first stride = record { first = first; stride = stride }
@@ -91,3 +94,17 @@ pub record KeptOn (side : ℕ) (source patch : List ℕ) (at : Lines) (columns :
       → NoMoreThanZero (copiedCost discount (blockIn side source p corner)) s
       → (r ≡ keptOf (copiedCost discount (blockIn side source p corner)) s l)
       × NoMoreThanZero (copiedCost discount (blockIn side source p corner)) r
+
+-- ---- the square of ±8, on a patch of 32 rows of 32 samples
+
+-- all that its places meet
+abbrev pub NearPatch : List ℕ → Plane → Point → Type 0
+NearPatch patch p corner = patch ≡ copiedBlock p (movedTo corner (nearSquare .from)) 32 32
+
+-- whatever reference and place the patch is of: r is zero at its cost there
+pub record MiddleStart (source patch : List ℕ) (r : Scored) : Type 0 where
+  pub start : (p : Plane) (corner : Point) → NearPatch patch p corner → r ≡ atCost (copiedCost zeroDiscount (blockIn 16 source p corner)) zeroVector
+
+-- r is what a search from zero over the square keeps there
+pub record NearKept (source patch : List ℕ) (r : Scored) : Type 0 where
+  pub kept : (p : Plane) (corner : Point) → NearPatch patch p corner → r ≡ found (copiedCost zeroDiscount (blockIn 16 source p corner)) nearRows

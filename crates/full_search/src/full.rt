@@ -16,7 +16,7 @@ ghost use Rattle.full_search.specs.Won.{sixteenBest, eightBest};
 ghost use Rattle.full_search.specs.Told.{Within, Inside, Ready, movedTo};
 ghost use Rattle.full_search.specs.ToldKept.{keptOf, found, keptRows, targetCost, targetLattice};
 ghost use Rattle.full_search.specs.ToldKept.{rowBelow, rowsBelow, StripReady, SquareReady, WideReady, BandReady, LatticeReady, SeedReady};
-ghost use Rattle.full_search.specs.ToldPatch.{sumFrom};
+ghost use Rattle.full_search.specs.ToldPatch.{sumFrom, MiddleStart, NearKept};
 use crate::Lines;
 use crate::Row;
 use crate::Scored;
@@ -143,28 +143,54 @@ fn square_search(
     b
 }
 
-// Zero, then the square of ±8.
-fn near_search(source: &[u8], reference: &[u8], target: Target) -> Scored
-    requires { ⌜ Ready (now source) (now reference) target × (target .side ≡ 16) ⌝ }
-    ensures { λ r. ⌜ r ≡ found (targetCost zeroDiscount (now (source .entry)) (now (reference .entry)) target) nearRows ⌝ }
+// Zero, whose block is the middle of the patch, at its sum less the discount.
+fn middle_start(source: &[u8], patch: &[u8]) -> Scored
+    requires { ⌜ (length (now source) ≡ 256) × (length (now patch) ≡ 1024) ⌝ }
+    ensures { λ r. ⌜ MiddleStart (now (source .entry)) (now (patch .entry)) r ⌝ }
 {
-    let mut patch = [0u8; 1024];
-    let zero = zero_start(source, reference, target, ZERO_DISCOUNT);
+    let sum = sums::block(source, 16, patch, 264, 32, 16);
+    let zero = record::zero_vector();
+    Scored {
+        vector: zero,
+        cost: rows::less(sum, ZERO_DISCOUNT),
+    }
+}
+
+// Zero, then the rows of the square of ±8, on their patch.
+fn near_rows(source: &[u8], patch: &[u8]) -> Scored
+    requires { ⌜ (length (now source) ≡ 256) × (length (now patch) ≡ 1024) ⌝ }
+    ensures { λ r. ⌜ NearKept (now (source .entry)) (now (patch .entry)) r ⌝ }
+{
     let from = MotionVector { x: -8, y: -8 };
     let square = Square {
         from,
         count: 17,
         outer: 8,
     };
-    square_search(
-        source,
-        reference,
-        target,
-        &mut patch,
-        square,
-        ZERO_DISCOUNT,
-        zero,
-    )
+    let mut b = middle_start(source, patch);
+    for j in 0..17 {
+        let row = square_row(square, j);
+        let lines = Lines {
+            first: j * 32,
+            stride: 32,
+        };
+        b = rows::sixteen_row(source, patch, lines, row, ZERO_DISCOUNT, b);
+    }
+    b
+}
+
+// Zero, then the square of ±8.
+fn near_search(source: &[u8], reference: &[u8], target: Target) -> Scored
+    requires { ⌜ Ready (now source) (now reference) target × (target .side ≡ 16) ⌝ }
+    ensures { λ r. ⌜ r ≡ found (targetCost zeroDiscount (now (source .entry)) (now (reference .entry)) target) nearRows ⌝ }
+{
+    let mut patch = [0u8; 1024];
+    let geometry = target.geometry;
+    let corner = target.corner;
+    let from = MotionVector { x: -8, y: -8 };
+    let at = moved_to(corner, from);
+    plane::copy_block(reference, geometry, at, 32, 32, &mut patch);
+    near_rows(source, &patch)
 }
 
 // How far the clipped window goes back.
