@@ -115,7 +115,7 @@ pub fn row_search(
     b
 }
 
-// One place of a 16 x 16 block, which is listed and is not zero. What is summed so far is compared after every two rows: most places
+// One place of a 16 x 16 block, which is listed and is not zero. What is summed so far is compared after every four rows: most places
 // cost too much long before the last.
 fn other_place(
     source: &[u8],
@@ -129,8 +129,8 @@ fn other_place(
     ensures { λ r. ⌜ ((discount : ℕ) → KeptOn 16 (now (source .entry)) (now (patch .entry)) (linesFrom first stride) 16 d discount (d ∷ []) best r) ⌝ }
 {
     let mut sum: u32 = 0;
-    for k in 0..8 {
-        sum += sums::two_rows(source, patch, first, stride, k);
+    for k in 0..4 {
+        sum += sums::four_rows(source, patch, first, stride, k);
         if best.cost <= sum {
             return best;
         }

@@ -7,7 +7,7 @@ ghost use Prim.Native.Nat.{_+_, _*_, _<_, _≤_};
 ghost use lib.ListN.{length, getD};
 ghost use Rattle.basis.specs.Sums.{sumTo, absDiff};
 ghost use Rattle.plane.specs.Reference.{isSide};
-ghost use Rattle.full_search.specs.ToldPatch.{lineAt, linesFrom, LinesFit, RowsFit, rowSum, twoRows, linesSum};
+ghost use Rattle.full_search.specs.ToldPatch.{lineAt, linesFrom, LinesFit, RowsFit, rowSum, fourRows, linesSum};
 
 fn difference(a: u8, b: u8) -> u32
     ensures { λ r. ⌜ (r ≡ absDiff a b) × (r ≤ 255) ⌝ }
@@ -57,13 +57,16 @@ fn row_at_8(source: &[u8], apart: usize, window: &[u8], at: usize, stride: usize
     row_8(&source[s..s + 8], &window[w..w + 8])
 }
 
-// Rows 2 k and 2 k + 1 of a 16 x 16 block that is listed row by row.
-pub fn two_rows(source: &[u8], window: &[u8], at: usize, stride: usize, k: usize) -> u32
-    requires { ⌜ (k < 8) × RowsFit 16 16 (now source) × LinesFit 16 (linesFrom at stride) (now window) ⌝ }
-    ensures { λ r. ⌜ (r ≡ twoRows 16 (now (source .entry)) 16 (now (window .entry)) (linesFrom at stride) k) × (r ≤ 8160) ⌝ }
+// Rows 4 k to 4 k + 3 of a 16 x 16 block that is listed row by row.
+pub fn four_rows(source: &[u8], window: &[u8], at: usize, stride: usize, k: usize) -> u32
+    requires { ⌜ (k < 4) × RowsFit 16 16 (now source) × LinesFit 16 (linesFrom at stride) (now window) ⌝ }
+    ensures { λ r. ⌜ (r ≡ fourRows 16 (now (source .entry)) 16 (now (window .entry)) (linesFrom at stride) k) × (r ≤ 16320) ⌝ }
 {
-    let first = row_at_16(source, 16, window, at, stride, 2 * k);
-    first + row_at_16(source, 16, window, at, stride, 2 * k + 1)
+    let first = row_at_16(source, 16, window, at, stride, 4 * k);
+    let second = row_at_16(source, 16, window, at, stride, 4 * k + 1);
+    let third = row_at_16(source, 16, window, at, stride, 4 * k + 2);
+    let fourth = row_at_16(source, 16, window, at, stride, 4 * k + 3);
+    first + second + third + fourth
 }
 
 fn block_16(source: &[u8], apart: usize, window: &[u8], at: usize, stride: usize) -> u32
