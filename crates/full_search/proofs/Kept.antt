@@ -4,7 +4,7 @@ use native.Mathlib.Numerals.{add-one}
 use native.Mathlib.Omega.{arith}
 use mathlib.Core.Bool.{Bool, true, false, cond}
 use mathlib.Core.List.{List, [], _∷_, _++_, foldl, foldl-append}
-use mathlib.Core.Path.{_≡_, refl, sym, ap₂, _∙_, subst}
+use mathlib.Core.Path.{_≡_, refl, sym, ap, ap₂, _∙_, subst}
 use lib.Dec.{ltb}
 use borrow.Author.Tests.{ltb-true, ltb-false}
 use Rattle.basis.specs.Least.{better, best, grown}
@@ -21,6 +21,23 @@ pub pieces-more : (cost : MotionVector → ℕ) (s b : Scored) (piece : ℕ → 
     → b ≡ keptOf cost s (rows j piece) → l ≡ piece j
     → keptOf cost b l ≡ keptOf cost s (rows (j + 1) piece)
 pieces-more cost s b piece j e g = ap₂ (keptOf cost) e g ∙ sym (fold-rows (consider cost) s j piece)
+
+-- n pieces more
+pub pieces-on : (cost : MotionVector → ℕ) (s : Scored) (piece more : ℕ → List MotionVector) (j n : ℕ)
+    → ((i : ℕ) → i < n → more i ≡ piece (j + i))
+    → keptOf cost (keptOf cost s (rows j piece)) (rows n more) ≡ keptOf cost s (rows (j + n) piece)
+unfolding rows
+pieces-on cost s piece more j zero h = ap (λ (m : ℕ). keptOf cost s (rows m piece)) (none j)
+  where
+    none : (j : ℕ) → j ≡ j + 0
+    none j = omega arith
+pieces-on cost s piece more j (suc n) h =
+    foldl-append (consider cost) (keptOf cost s (rows j piece)) (rows n more) (more n)
+    ∙ pieces-more cost s _ piece (j + n) (pieces-on cost s piece more j n (λ i p. h i (omega arith))) (h n (omega arith))
+    ∙ ap (λ (m : ℕ). keptOf cost s (rows m piece)) (next j n)
+  where
+    next : (j n : ℕ) → j + n + 1 ≡ j + suc n
+    next j n = omega arith
 
 module _ (cost : MotionVector → ℕ) where
   same : (l : List MotionVector) (a : MotionVector) → keptOf cost (atCost cost a) l ≡ atCost cost (foldl (better cost) a l)

@@ -11,4 +11,5 @@ pub mod RowSums
 pub mod Shown
 pub mod Sides
 pub mod Taken
+pub mod Whole
 pub mod WindowSums

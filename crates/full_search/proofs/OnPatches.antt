@@ -6,6 +6,7 @@ use mathlib.Core.List.{List, [], _∷_}
 use mathlib.Core.Path.{_≡_, refl, sym, ap, _∙_, subst}
 use Rattle.basis.specs.Lists.{rows}
 use Rattle.record.specs.declared.MotionVector.{MotionVector}
+use Rattle.record.specs.Zero.{zeroVector}
 use Rattle.plane.specs.declared.Point.{Point}
 use Rattle.plane.specs.Plane.{Plane, copiedBlock}
 use Rattle.full_search.specs.declared.Lines.{Lines}
@@ -13,13 +14,14 @@ use Rattle.full_search.specs.declared.Row.{Row}
 use Rattle.full_search.specs.declared.Scored.{Scored}
 use Rattle.full_search.specs.declared.Square.{Square}
 use Rattle.full_search.specs.Block.{blockIn, copiedSum}
-use Rattle.full_search.specs.Costs.{consider}
-use Rattle.full_search.specs.Places.{right, distance, listed, rowPlace, rowOf, squareRow, squareOf}
+use Rattle.full_search.specs.Costs.{zeroDiscount, consider}
+use Rattle.full_search.specs.Places.{right, down, distance, listed, rowPlace, rowOf, squareRow, squareOf}
+use Rattle.full_search.specs.Full.{nearSquare, nearRows}
 use Rattle.full_search.specs.Told.{movedTo}
 use Rattle.full_search.specs.ToldKept.{keptOf, copiedCost, NoMoreThanZero}
-use Rattle.full_search.specs.ToldPatch.{linesSum, linesFrom, Shown, linesRight, rowColumns, KeptOn}
-use Rattle.full_search.proofs.Kept.{pieces-more, kept-small}
-use Rattle.full_search.proofs.Listed.{consider-cost, zero-costs, other-costs}
+use Rattle.full_search.specs.ToldPatch.{linesSum, linesFrom, Shown, linesRight, rowColumns, KeptOn, NearPatch, MiddleStart, NearKept}
+use Rattle.full_search.proofs.Kept.{pieces-more, kept-small, zero-small}
+use Rattle.full_search.proofs.Listed.{consider-cost, dear-passed, zero-costs, other-costs}
 use Rattle.full_search.proofs.Patches.{strip-shown, patch-shown, narrower, strip-columns}
 use Rattle.full_search.proofs.Shown.{shown-sum, shown-right}
 
@@ -62,6 +64,18 @@ module _ (side : ℕ) (source patch : List ℕ) (at : Lines) (discount : ℕ) (d
     pub other-here : (distance d ≡ 0 → ⊥) → (p : Plane) (corner : Point) → Shown side p corner d patch at side → sum ≡ costAt p corner d
     other-here z p corner h =
         e ∙ shown-sum side p corner d source patch at h ∙ sym (other-costs discount (copiedSum (blockIn side source p corner)) d z)
+
+  -- which a part of its sum shows to cost too much, where it is not zero
+  pub too-dear : (part : ℕ) (s : Scored) {l : List MotionVector} → s .cost ≤ part → part ≤ linesSum side source side patch at
+      → (distance d ≡ 0 → ⊥) → l ≡ d ∷ [] → KeptOn side source patch at side d discount l s s
+  too-dear part s h k z g =
+      record {
+        kept =
+            λ p corner seen q.
+            let cost = costAt p corner in
+            let e = other-here (linesSum side source side patch at) refl z p corner seen in
+            (sym (ap (keptOf cost s) g ∙ dear-passed cost s d (omega (arith, e))), q);
+      }
 
 -- ---- a row
 
@@ -112,38 +126,62 @@ strip-kept side source strip p corner r discount s b e k q =
     let w = side + r .step * r .count in
     k .kept p corner (narrower w (rowColumns side r) (strip-columns side (r .step) (r .count)) (strip-shown p corner (r .from) w side strip e)) q .0
 
--- ---- a square
+-- ---- rows of places
 
-module _ (side : ℕ) (source patch : List ℕ) (q : Square) (width discount : ℕ) (s : Scored) where
-  -- whatever reference and place the patch is of: what the first j rows of a square keep
-  pub record SquareKept (j : ℕ) (b : Scored) : Type 0 where
-    pub kept : (p : Plane) (corner : Point) → patch ≡ copiedBlock p (movedTo corner (q .from)) width width
+module _ (side : ℕ) (source patch : List ℕ) (from : MotionVector) (width height discount : ℕ) (line : ℕ → Row) (s : Scored) where
+  -- whatever reference and place the patch is of: what the first j rows keep
+  pub record RowsKept (j : ℕ) (b : Scored) : Type 0 where
+    pub kept : (p : Plane) (corner : Point) → patch ≡ copiedBlock p (movedTo corner from) width height
         → NoMoreThanZero (copiedCost discount (blockIn side source p corner)) s
-        → b ≡ keptOf (copiedCost discount (blockIn side source p corner)) s (rows j (λ i. rowOf (squareRow q i)))
+        → b ≡ keptOf (copiedCost discount (blockIn side source p corner)) s (rows j (λ i. rowOf (line i)))
 
-  pub square-none : SquareKept 0 s
+  pub rows-none : RowsKept 0 s
   unfolding rows
-  square-none = record { kept = λ p corner e h. refl }
+  rows-none = record { kept = λ p corner e h. refl }
 
-  -- one row more
-  pub square-more : (j : ℕ) (r : Row) (b c : Scored) → j < q .count → width ≡ side + q .count - 1 → r ≡ squareRow q j → SquareKept j b
-      → KeptOn side source patch (record { first = j * width; stride = width }) (rowColumns side r) (r .from) discount (rowOf r) b c
-      → SquareKept (j + 1) c
-  square-more j r b c h w e before here =
+  -- one row more, `by` rows down the patch
+  pub rows-more : (j by : ℕ) (r : Row) (b c : Scored) → by + side ≤ height → rowColumns side (line j) ≤ width → line j .from ≡ down from by
+      → r ≡ line j → RowsKept j b
+      → KeptOn side source patch (record { first = by * width; stride = width }) (rowColumns side r) (r .from) discount (rowOf r) b c
+      → RowsKept (j + 1) c
+  rows-more j by r b c h w f e before here =
       record {
         kept =
             λ p corner held small.
             let cost = copiedCost discount (blockIn side source p corner) in
             let l = before .kept p corner held small in
-            let lines : Lines = record { first = j * width; stride = width } in
-            let seen =
-            narrower width (rowColumns side (squareRow q j)) (columns (q .count) h w)
-            (patch-shown p corner (q .from) width width side j patch (last (q .count) h w) held) in
-            let there = subst (λ (r : Row). Shown side p corner (r .from) patch lines (rowColumns side r)) (sym e) seen in
-            let best = kept-by cost s b (rows j (λ i. rowOf (squareRow q i))) l small .1 in
-            here .kept p corner there best .0
-            ∙ pieces-more cost s b (λ i. rowOf (squareRow q i)) j l (ap rowOf e);
+            let lines : Lines = record { first = by * width; stride = width } in
+            let seen = narrower width (rowColumns side (line j)) w (patch-shown p corner from width height side by patch h held) in
+            let down-there = subst (λ (v : MotionVector). Shown side p corner v patch lines (rowColumns side (line j))) (sym f) seen in
+            let there = subst (λ (r : Row). Shown side p corner (r .from) patch lines (rowColumns side r)) (sym e) down-there in
+            let best = kept-by cost s b (rows j (λ i. rowOf (line i))) l small .1 in
+            here .kept p corner there best .0 ∙ pieces-more cost s b (λ i. rowOf (line i)) j l (ap rowOf e);
       }
+
+  -- all of them
+  pub rows-all : (n j : ℕ) (b : Scored) → j ≡ n → RowsKept j b → (p : Plane) (corner : Point)
+      → patch ≡ copiedBlock p (movedTo corner from) width height → NoMoreThanZero (copiedCost discount (blockIn side source p corner)) s
+      → b ≡ keptOf (copiedCost discount (blockIn side source p corner)) s (rows n (λ i. rowOf (line i)))
+  rows-all n j b e k p corner held small =
+      let cost = copiedCost discount (blockIn side source p corner) in
+      k .kept p corner held small ∙ ap (λ (n : ℕ). keptOf cost s (rows n (λ i. rowOf (line i)))) e
+
+-- ---- a square
+
+module _ (side : ℕ) (source patch : List ℕ) (q : Square) (width discount : ℕ) (s : Scored) where
+  -- what the first j rows of a square keep
+  abbrev pub SquareKept : ℕ → Scored → Type 0
+  SquareKept = RowsKept side source patch (q .from) width width discount (squareRow q) s
+
+  pub square-none : SquareKept 0 s
+  square-none = rows-none side source patch (q .from) width width discount (squareRow q) s
+
+  -- one row more
+  pub square-more : (j : ℕ) (r : Row) (b c : Scored) → j < q .count → width ≡ side + q .count - 1 → r ≡ squareRow q j → SquareKept j b
+      → KeptOn side source patch (record { first = j * width; stride = width }) (rowColumns side r) (r .from) discount (rowOf r) b c
+      → SquareKept (j + 1) c
+  square-more j r b c h w e =
+      rows-more side source patch (q .from) width width discount (squareRow q) s j j r b c (last (q .count) h w) (columns (q .count) h w) refl e
     where
       columns : (count : ℕ) → j < count → width ≡ side + count - 1 → 1 * (count - 1) + side ≤ width
       columns count h w = omega arith
@@ -156,6 +194,27 @@ module _ (side : ℕ) (source patch : List ℕ) (q : Square) (width discount : �
       → patch ≡ copiedBlock p (movedTo corner (q .from)) width width → NoMoreThanZero (copiedCost discount (blockIn side source p corner)) s
       → b ≡ keptOf (copiedCost discount (blockIn side source p corner)) s (squareOf q)
   unfolding squareOf
-  square-all j b e k p corner held small =
-      let cost = copiedCost discount (blockIn side source p corner) in
-      k .kept p corner held small ∙ ap (λ (n : ℕ). keptOf cost s (rows n (λ i. rowOf (squareRow q i)))) e
+  square-all = rows-all side source patch (q .from) width width discount (squareRow q) s (q .count)
+
+-- ---- the square of ±8
+
+-- zero's sum, in the middle of its patch
+pub middle-sum : (source patch : List ℕ) (p : Plane) (corner : Point) → NearPatch patch p corner
+    → linesSum 16 source 16 patch (linesFrom 264 32) ≡ copiedSum (blockIn 16 source p corner) zeroVector
+middle-sum source patch p corner e =
+    shown-sum 16 p corner zeroVector source patch (linesFrom 264 32)
+    (shown-right 16 p corner (down (nearSquare .from) 8) patch (record { first = 8 * 32; stride = 32 }) 32 8 16 (omega arith)
+    (patch-shown p corner (nearSquare .from) 32 32 16 8 patch (omega arith) e))
+
+-- what all its rows keep that begin with zero
+pub near-all : (source patch : List ℕ) (z : Scored) (j : ℕ) (b : Scored) → MiddleStart source patch z → j ≡ 17
+    → SquareKept 16 source patch nearSquare 32 zeroDiscount z j b → NearKept source patch b
+near-all source patch z j b m e k =
+    record {
+      kept =
+          λ p corner held.
+          let cost = copiedCost zeroDiscount (blockIn 16 source p corner) in
+          let zero = m .start p corner held in
+          square-all 16 source patch nearSquare 32 zeroDiscount z j b e k p corner held (zero-small cost z zero)
+          ∙ ap (λ (s : Scored). keptOf cost s nearRows) zero;
+    }

@@ -3,6 +3,7 @@ use Prim.Native.Nat.{ℕ, zero, suc, _+_, _-_, _*_, _≤_}
 use mathlib.Core.List.{List, foldl}
 use mathlib.Core.Path.{_≡_}
 use lib.ListN.{length}
+use Rattle.basis.specs.Lists.{rows}
 use Rattle.record.specs.declared.MotionVector.{MotionVector}
 use Rattle.record.specs.Zero.{zeroVector}
 use Rattle.full_search.specs.declared.Row.{Row}
@@ -11,7 +12,7 @@ use Rattle.full_search.specs.declared.Square.{Square}
 use Rattle.full_search.specs.declared.Target.{Target}
 use Rattle.full_search.specs.Block.{Block, blockOf, copiedSum}
 use Rattle.full_search.specs.Costs.{discounted, zeroDiscount, atCost, consider}
-use Rattle.full_search.specs.Places.{lattice}
+use Rattle.full_search.specs.Places.{down, rowOf, lattice}
 use Rattle.full_search.specs.Told.{Within, Ready}
 
 -- what a search over l keeps that begins with the best so far
@@ -37,6 +38,14 @@ targetCost discount source samples t = copiedCost discount (blockOf source sampl
 -- the lattice of a target's place
 abbrev pub targetLattice : ℕ → Target → List MotionVector
 targetLattice w t = lattice w (t .corner) (t .geometry .width) (t .geometry .height)
+
+-- a row of places, `by` samples farther down
+abbrev pub rowBelow : Row → ℕ → Row
+rowBelow r by = record { from = down (r .from) by; step = r .step; count = r .count; inner = r .inner; outer = r .outer }
+
+-- n rows of places from the first on, four samples apart
+abbrev pub rowsBelow : Row → ℕ → List MotionVector
+rowsBelow r n = rows n (λ i. rowOf (rowBelow r (4 * i)))
 
 -- a best so far that costs no more than zero does
 abbrev pub NoMoreThanZero : (MotionVector → ℕ) → Scored → Type 0
@@ -66,6 +75,25 @@ pub record WideReady (source samples : List ℕ) (t : Target) (w : ℕ) (best : 
   pub ready : Ready source samples t
   pub sixteen : t .side ≡ 16
   pub window-small : w ≤ 1023
+  pub best-small : NoMoreThanZero (targetCost zeroDiscount source samples t) best
+
+-- over at most eight rows of places, on a band of the reference
+pub record BandReady (source samples : List ℕ) (t : Target) (band : List ℕ) (first : Row) (n : ℕ) (best : Scored) : Type 0 where
+  pub ready : Ready source samples t
+  pub sixteen : t .side ≡ 16
+  pub from-small : Within 4000 (first .from)
+  pub run-small : first .step * first .count ≤ 2048
+  pub few : n ≤ 8
+  pub band-fits : length band ≡ (16 + first .step * first .count) * 44
+  pub best-small : NoMoreThanZero (targetCost zeroDiscount source samples t) best
+
+-- over the lattice's rows, each of which goes at most `most` samples far
+pub record LatticeReady (source samples : List ℕ) (t : Target) (first : Row) (lines most : ℕ) (best : Scored) : Type 0 where
+  pub ready : Ready source samples t
+  pub sixteen : t .side ≡ 16
+  pub from-small : Within 1023 (first .from)
+  pub run-small : first .step * first .count ≤ most
+  pub few : lines ≤ 512
   pub best-small : NoMoreThanZero (targetCost zeroDiscount source samples t) best
 
 -- around a seed, in the search for one of four

@@ -1,12 +1,13 @@
 -- Told, not believed: patches of the reference, copied once, on which the code sums and searches.
 use Prim.Native.Nat.{ℕ, _+_, _-_, _*_, _<_, _≤_}
 use mathlib.Core.Bool.{true}
-use mathlib.Core.List.{List}
+use mathlib.Core.List.{List, [], _∷_}
 use mathlib.Core.Path.{_≡_}
 use lib.IntN.{_+ℤ_}
 use lib.ListN.{length, getD}
 use Rattle.basis.specs.Sums.{sumTo, absDiff}
 use Rattle.record.specs.declared.MotionVector.{MotionVector}
+use Rattle.record.specs.Zero.{zeroVector}
 use Rattle.plane.specs.declared.Point.{Point}
 use Rattle.plane.specs.Plane.{Plane, planeOf, copied, copiedBlock}
 use Rattle.plane.specs.Reference.{isSide}
@@ -15,8 +16,11 @@ use Rattle.full_search.specs.declared.Row.{Row}
 use Rattle.full_search.specs.declared.Scored.{Scored}
 use Rattle.full_search.specs.declared.Target.{Target}
 use Rattle.full_search.specs.Block.{blockIn}
-use Rattle.full_search.specs.Told.{Within}
-use Rattle.full_search.specs.ToldKept.{copiedCost, keptOf, NoMoreThanZero}
+use Rattle.full_search.specs.Costs.{zeroDiscount, atCost}
+use Rattle.full_search.specs.Places.{right, distance, rowPlace}
+use Rattle.full_search.specs.Full.{nearSquare, nearRows}
+use Rattle.full_search.specs.Told.{Within, movedTo}
+use Rattle.full_search.specs.ToldKept.{copiedCost, keptOf, found, NoMoreThanZero}
 
 abbrev pub linesFrom : ℕ → ℕ → Lines
 linesFrom first stride = record { first = first; stride = stride }
@@ -36,6 +40,12 @@ RowsFit side apart source = (side - 1) * apart + side ≤ length source
 -- of row j: `side` samples of a source whose rows are `apart` samples apart, against those of a window
 abbrev pub rowSum : ℕ → List ℕ → ℕ → List ℕ → Lines → ℕ → ℕ
 rowSum side source apart window at j = sumTo side (λ i. absDiff (getD source (j * apart + i) 0) (getD window (lineAt at j + i) 0))
+
+-- of rows 4 k to 4 k + 3
+abbrev pub fourRows : ℕ → List ℕ → ℕ → List ℕ → Lines → ℕ → ℕ
+fourRows side source apart window at k =
+    let row = rowSum side source apart window at in
+    row (4 * k) + row (4 * k + 1) + row (4 * k + 2) + row (4 * k + 3)
 
 unfoldable pub linesSum : ℕ → List ℕ → ℕ → List ℕ → Lines → ℕ
 linesSum side source apart window at = sumTo side (rowSum side source apart window at)
@@ -69,6 +79,11 @@ pub record RowReady (side : ℕ) (source patch : List ℕ) (at : Lines) (r : Row
   pub from-small : Within 4096 (r .from)
   pub run-small : r .step * r .count ≤ 4096
 
+-- every place of a row is listed, and none of them is zero
+pub record ListedWhole (r : Row) : Type 0 where
+  pub all : (k : ℕ) → k < r .count → rowPlace r k ≡ right (r .from) (r .step * k) ∷ []
+  pub other : (k : ℕ) → k < r .count → distance (right (r .from) (r .step * k)) ≡ 0 → ⊥
+
 -- the columns that a row's places meet
 abbrev pub rowColumns : ℕ → Row → ℕ
 rowColumns side r = r .step * (r .count - 1) + side
@@ -81,3 +96,17 @@ pub record KeptOn (side : ℕ) (source patch : List ℕ) (at : Lines) (columns :
       → NoMoreThanZero (copiedCost discount (blockIn side source p corner)) s
       → (r ≡ keptOf (copiedCost discount (blockIn side source p corner)) s l)
       × NoMoreThanZero (copiedCost discount (blockIn side source p corner)) r
+
+-- ---- the square of ±8, on a patch of 32 rows of 32 samples
+
+-- all that its places meet
+abbrev pub NearPatch : List ℕ → Plane → Point → Type 0
+NearPatch patch p corner = patch ≡ copiedBlock p (movedTo corner (nearSquare .from)) 32 32
+
+-- whatever reference and place the patch is of: r is zero at its cost there
+pub record MiddleStart (source patch : List ℕ) (r : Scored) : Type 0 where
+  pub start : (p : Plane) (corner : Point) → NearPatch patch p corner → r ≡ atCost (copiedCost zeroDiscount (blockIn 16 source p corner)) zeroVector
+
+-- r is what a search from zero over the square keeps there
+pub record NearKept (source patch : List ℕ) (r : Scored) : Type 0 where
+  pub kept : (p : Plane) (corner : Point) → NearPatch patch p corner → r ≡ found (copiedCost zeroDiscount (blockIn 16 source p corner)) nearRows

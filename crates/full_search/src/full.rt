@@ -1,7 +1,7 @@
 // The full-sample search: zero, the square of ±8, the lattice beyond it and the dense pass around the lattice's winner; and that of an
 // 8 x 8 block around a seed. Every row is searched on a patch of the reference that is copied once.
 ghost use mathlib.Core.Path.{_≡_};
-ghost use Prim.Native.Nat.{_*_, _<_, _≤_};
+ghost use Prim.Native.Nat.{_+_, _*_, _<_, _≤_, min};
 ghost use lib.IntN.{pos, _-ℤ_};
 ghost use lib.Signed.{quotZ};
 ghost use lib.ListN.{length};
@@ -10,12 +10,13 @@ ghost use Rattle.record.specs.Zero.{zeroVector};
 ghost use Rattle.prediction.specs.Luma.{unitsPerPel};
 ghost use Rattle.full_search.specs.Block.{blockOf};
 ghost use Rattle.full_search.specs.Costs.{zeroDiscount, atCost};
-ghost use Rattle.full_search.specs.Places.{rowOf, squareOf, squareRow, back, places, latticeFrom, latticeRowAt};
+ghost use Rattle.full_search.specs.Places.{rowOf, squareOf, squareRow, back, places, latticeFrom};
 ghost use Rattle.full_search.specs.Full.{nearRows, denseRowAt, denseRow, seedFrom};
 ghost use Rattle.full_search.specs.Won.{sixteenBest, eightBest};
 ghost use Rattle.full_search.specs.Told.{Within, Inside, Ready, movedTo};
-ghost use Rattle.full_search.specs.ToldKept.{keptOf, found, keptRows, targetCost, targetLattice, StripReady, SquareReady, WideReady, SeedReady};
-ghost use Rattle.full_search.specs.ToldPatch.{sumFrom};
+ghost use Rattle.full_search.specs.ToldKept.{keptOf, found, keptRows, targetCost, targetLattice};
+ghost use Rattle.full_search.specs.ToldKept.{rowBelow, rowsBelow, StripReady, SquareReady, WideReady, BandReady, LatticeReady, SeedReady};
+ghost use Rattle.full_search.specs.ToldPatch.{sumFrom, MiddleStart, NearKept};
 use crate::Lines;
 use crate::Row;
 use crate::Scored;
@@ -142,28 +143,54 @@ fn square_search(
     b
 }
 
-// Zero, then the square of ±8.
-fn near_search(source: &[u8], reference: &[u8], target: Target) -> Scored
-    requires { ⌜ Ready (now source) (now reference) target × (target .side ≡ 16) ⌝ }
-    ensures { λ r. ⌜ r ≡ found (targetCost zeroDiscount (now (source .entry)) (now (reference .entry)) target) nearRows ⌝ }
+// Zero, whose block is the middle of the patch, at its sum less the discount.
+fn middle_start(source: &[u8], patch: &[u8]) -> Scored
+    requires { ⌜ (length (now source) ≡ 256) × (length (now patch) ≡ 1024) ⌝ }
+    ensures { λ r. ⌜ MiddleStart (now (source .entry)) (now (patch .entry)) r ⌝ }
 {
-    let mut patch = [0u8; 1024];
-    let zero = zero_start(source, reference, target, ZERO_DISCOUNT);
+    let sum = sums::block(source, 16, patch, 264, 32, 16);
+    let zero = record::zero_vector();
+    Scored {
+        vector: zero,
+        cost: rows::less(sum, ZERO_DISCOUNT),
+    }
+}
+
+// Zero, then the rows of the square of ±8, on their patch.
+fn near_rows(source: &[u8], patch: &[u8]) -> Scored
+    requires { ⌜ (length (now source) ≡ 256) × (length (now patch) ≡ 1024) ⌝ }
+    ensures { λ r. ⌜ NearKept (now (source .entry)) (now (patch .entry)) r ⌝ }
+{
     let from = MotionVector { x: -8, y: -8 };
     let square = Square {
         from,
         count: 17,
         outer: 8,
     };
-    square_search(
-        source,
-        reference,
-        target,
-        &mut patch,
-        square,
-        ZERO_DISCOUNT,
-        zero,
-    )
+    let mut b = middle_start(source, patch);
+    for j in 0..17 {
+        let row = square_row(square, j);
+        let lines = Lines {
+            first: j * 32,
+            stride: 32,
+        };
+        b = rows::sixteen_row(source, patch, lines, row, ZERO_DISCOUNT, b);
+    }
+    b
+}
+
+// Zero, then the square of ±8.
+fn near_search(source: &[u8], reference: &[u8], target: Target) -> Scored
+    requires { ⌜ Ready (now source) (now reference) target × (target .side ≡ 16) ⌝ }
+    ensures { λ r. ⌜ r ≡ found (targetCost zeroDiscount (now (source .entry)) (now (reference .entry)) target) nearRows ⌝ }
+{
+    let mut patch = [0u8; 1024];
+    let geometry = target.geometry;
+    let corner = target.corner;
+    let from = MotionVector { x: -8, y: -8 };
+    let at = moved_to(corner, from);
+    plane::copy_block(reference, geometry, at, 32, 32, &mut patch);
+    near_rows(source, &patch)
 }
 
 // How far the clipped window goes back.
@@ -209,46 +236,136 @@ fn lattice_from(w: usize, corner: Point) -> MotionVector
     }
 }
 
-// Row j of the lattice.
-fn lattice_row(w: usize, from: MotionVector, count: usize, j: usize) -> Row
-    requires { ⌜ Within 1023 from × (j < 512) ⌝ }
-    ensures { λ r. ⌜ r ≡ latticeRowAt w from count j ⌝ }
+fn row_below(row: Row, by: usize) -> Row
+    requires { ⌜ Within 4096 (row .from) × (by ≤ 4096) ⌝ }
+    ensures { λ r. ⌜ r ≡ rowBelow row by ⌝ }
 {
+    let from = row.from;
     Row {
-        from: rows::down(from, 4 * j),
-        step: 4,
-        count,
-        inner: 9,
-        outer: w,
+        from: rows::down(from, by),
+        step: row.step,
+        count: row.count,
+        inner: row.inner,
+        outer: row.outer,
     }
 }
 
-// The lattice, a strip of the reference a row.
+// At most eight rows of the lattice, on a band of the reference: they are four samples apart, so that 44 rows of samples are copied
+// for them and not 16 for each.
+fn band_search(
+    source: &[u8],
+    reference: &[u8],
+    target: Target,
+    band: &mut [u8],
+    first: Row,
+    n: usize,
+    best: Scored,
+) -> Scored
+    requires { ⌜ BandReady (now source) (now reference) target (now band) first n best ⌝ }
+    ensures { λ r. ⌜ r ≡ keptOf (targetCost zeroDiscount (now (source .entry)) (now (reference .entry)) target) best (rowsBelow first n) ⌝ }
+{
+    let geometry = target.geometry;
+    let corner = target.corner;
+    let width = 16 + first.step * first.count;
+    let from = first.from;
+    let at = moved_to(corner, from);
+    plane::copy_block(reference, geometry, at, width, 44, band);
+    let mut b = best;
+    for i in 0..n {
+        let row = row_below(first, 4 * i);
+        let lines = Lines {
+            first: 4 * i * width,
+            stride: width,
+        };
+        b = rows::sixteen_row(source, band, lines, row, ZERO_DISCOUNT, b);
+    }
+    b
+}
+
+// How many of the rows that are left go on one band.
+fn band_rows(left: usize) -> usize
+    ensures { λ r. ⌜ r ≡ min 8 left ⌝ }
+{
+    if left < 8 { left } else { 8 }
+}
+
+// The lattice's rows, band by band.
+fn lattice_bands(
+    source: &[u8],
+    reference: &[u8],
+    target: Target,
+    first: Row,
+    lines: usize,
+    band: &mut [u8],
+    best: Scored,
+) -> Scored
+    requires { ⌜ LatticeReady (now source) (now reference) target first lines 2048 best × ((16 + first .step * first .count) * 44 ≤ length (now band)) ⌝ }
+    ensures { λ r. ⌜ r ≡ keptOf (targetCost zeroDiscount (now (source .entry)) (now (reference .entry)) target) best (rowsBelow first lines) ⌝ }
+{
+    let size = (16 + first.step * first.count) * 44;
+    let mut b = best;
+    let mut j: usize = 0;
+    while j < lines {
+        let n = band_rows(lines - j);
+        let row = row_below(first, 4 * j);
+        b = band_search(source, reference, target, &mut band[0..size], row, n, b);
+        j += n;
+    }
+    b
+}
+
+// A small band is cleared sooner than one that every lattice fits.
+fn narrow_lattice(
+    source: &[u8],
+    reference: &[u8],
+    target: Target,
+    first: Row,
+    lines: usize,
+    best: Scored,
+) -> Scored
+    requires { ⌜ LatticeReady (now source) (now reference) target first lines 256 best ⌝ }
+    ensures { λ r. ⌜ r ≡ keptOf (targetCost zeroDiscount (now (source .entry)) (now (reference .entry)) target) best (rowsBelow first lines) ⌝ }
+{
+    let mut band = [0u8; 11968];
+    lattice_bands(source, reference, target, first, lines, &mut band, best)
+}
+
+fn wide_lattice(
+    source: &[u8],
+    reference: &[u8],
+    target: Target,
+    first: Row,
+    lines: usize,
+    best: Scored,
+) -> Scored
+    requires { ⌜ LatticeReady (now source) (now reference) target first lines 2048 best ⌝ }
+    ensures { λ r. ⌜ r ≡ keptOf (targetCost zeroDiscount (now (source .entry)) (now (reference .entry)) target) best (rowsBelow first lines) ⌝ }
+{
+    let mut band = [0u8; 90816];
+    lattice_bands(source, reference, target, first, lines, &mut band, best)
+}
+
+// The lattice.
 fn lattice_search(source: &[u8], reference: &[u8], target: Target, w: usize, best: Scored) -> Scored
     requires { ⌜ WideReady (now source) (now reference) target w best ⌝ }
     ensures { λ r. ⌜ r ≡ keptOf (targetCost zeroDiscount (now (source .entry)) (now (reference .entry)) target) best (targetLattice w target) ⌝ }
 {
-    let mut strip = [0u8; 33024];
     let geometry = target.geometry;
     let corner = target.corner;
     let from = lattice_from(w, corner);
     let count = places(w, part(corner.x), geometry.width);
     let lines = places(w, part(corner.y), geometry.height);
-    let size = (16 + 4 * count) * 16;
-    let mut b = best;
-    for j in 0..lines {
-        let row = lattice_row(w, from, count, j);
-        b = strip_search(
-            source,
-            reference,
-            target,
-            &mut strip[0..size],
-            row,
-            ZERO_DISCOUNT,
-            b,
-        );
+    let first = Row {
+        from,
+        step: 4,
+        count,
+        inner: 9,
+        outer: w,
+    };
+    if count <= 64 {
+        return narrow_lattice(source, reference, target, first, lines, best);
     }
-    b
+    wide_lattice(source, reference, target, first, lines, best)
 }
 
 fn lowered(z: i32, by: usize) -> i32

@@ -1,47 +1,69 @@
 -- `full_search::full::near_search` meets its contract. Assumes nothing.
-use Prim.Native.Nat.{ℕ, _+_, _-_, _*_}
+use Prim.Native.Nat.{ℕ, _*_}
 use native.Mathlib.Omega.{arith}
-use mathlib.Core.Path.{_≡_, refl, sym, ap, _∙_, subst}
+use mathlib.Core.Path.{_≡_, refl, sym, subst}
+use lib.ListN.{length}
 use borrow.Author.Needs.{needs}
-use Rattle.record.specs.declared.MotionVector.{MotionVector}
-use Rattle.full_search.specs.declared.Scored.{Scored}
+use Rattle.plane.specs.Plane.{Plane, planeOf}
+use Rattle.full_search.specs.Block.{blockIn}
 use Rattle.full_search.specs.Costs.{zeroDiscount}
-use Rattle.full_search.specs.Full.{nearRows}
-use Rattle.full_search.specs.ToldKept.{keptOf, targetCost}
-use Rattle.full_search.proofs.Kept.{zero-small}
+use Rattle.full_search.specs.Full.{nearSquare, nearRows}
+use Rattle.full_search.specs.Told.{movedTo}
+use Rattle.full_search.specs.ToldKept.{found, copiedCost}
+use Rattle.full_search.specs.ToldPatch.{NearPatch}
+use Rattle.full_search.proofs.Patches.{copy-is, copy-length}
 use Rattle.full_search.proofs.full.near_search.Statement.{statement}
 use Rattle.full_search.proofs.full.near_search.Tie as tie
 
-abbrev costOf : tie.Start → MotionVector → ℕ
-costOf s = let a = s .args in targetCost zeroDiscount (a .source .now) (a .reference .now) (a .target)
+abbrev start : tie.After-copy-block → tie.Start
+start c = c .before .before .before .before .before .before .before
 
-zero-start-requires : tie.Need-zero-start-requires
-zero-start-requires c κs = search needs
+abbrev planeIn : tie.Start → Plane
+planeIn s = planeOf (s .args .reference .now) (s .args .target .geometry)
 
-slice-aggregate-square-search : tie.Need-slice-aggregate-square-search
-slice-aggregate-square-search c = search needs
+-- what the patch holds
+held : (c : tie.After-copy-block) → NearPatch (c .copy-block .last .1 .1 .1 .1 .1 .0) (planeIn (start c)) (start c .args .target .corner)
+held c =
+    let s = start c in
+    let m = c .before .before in
+    let a = s .args in
+    copy-is (a .reference .now) (a .target .geometry) (m .moved-to .result) (movedTo (a .target .corner) (nearSquare .from)) 32 32
+    (c .copy-block .result) _ _ (s .pre .0 .reference) refl (m .moved-to .ensures) (c .copy-block .ensures .0) (c .copy-block .ensures .1)
 
-square-search-requires : tie.Need-square-search-requires
-square-search-requires c κs =
-    let z = c .before in
-    let s = z .before .before .before in
-    record {
-      ready = s .pre .0;
-      from-small = record { x-above = omega arith; x-below = omega arith; y-above = omega arith; y-below = omega arith };
-      some = omega arith;
-      few = omega arith;
-      patch-fits = subst (λ (n : ℕ). 1024 ≡ (n + 17 - 1) * (n + 17 - 1)) (sym (s .pre .1)) refl;
-      best-small = zero-small (costOf s) (z .zero-start .result) (z .zero-start .ensures);
-    }
+long : (c : tie.After-copy-block) → length (c .copy-block .last .1 .1 .1 .1 .1 .0) ≡ 1024
+long c = let s = start c in copy-length (planeIn s) (movedTo (s .args .target .corner) (nearSquare .from)) 32 32 _ (held c)
+
+moved-to-requires : tie.Need-moved-to-requires
+moved-to-requires c κs =
+    (c .before .before .before .before .pre .0 .inside, record { x-above = omega arith; x-below = omega arith; y-above = omega arith; y-below = omega arith })
+
+slice-aggregate-copy-block : tie.Need-slice-aggregate-copy-block
+slice-aggregate-copy-block c = search needs
+
+copy-block-requires : tie.Need-copy-block-requires
+copy-block-requires c κs = search needs
+
+slice-aggregate-near-rows : tie.Need-slice-aggregate-near-rows
+slice-aggregate-near-rows c = sym (long (c .before .before))
+
+near-rows-requires : tie.Need-near-rows-requires
+near-rows-requires c κs =
+    let k = c .before .before in
+    let s = start k in (
+      subst (λ (n : ℕ). length (s .args .source .now) ≡ n * n) (s .pre .1) (s .pre .0 .source-fits),
+      long k,
+    )
 
 returns : tie.Need-returns
 returns c =
-    let k = c .before in
-    let z = k .before .before in
-    let s = z .before .before .before in
-    k .square-search .ensures ∙ ap (λ (b : Scored). keptOf (costOf s) b nearRows) (z .zero-start .ensures)
+    let k = c .before .before .before in
+    let s = start k in
+    let a = s .args in
+    let corner = a .target .corner in
+    subst (λ (n : ℕ). c .near-rows .result ≡ found (copiedCost zeroDiscount (blockIn n (a .source .now) (planeIn s) corner)) nearRows)
+    (sym (s .pre .1)) (c .near-rows .ensures .kept (planeIn s) corner (held k))
 
 pub near-search-spec : {M : Type 1} → statement M
 near-search-spec =
     tie.close
-    (tie.spec zero-start-requires slice-aggregate-square-search square-search-requires returns)
+    (tie.spec moved-to-requires slice-aggregate-copy-block copy-block-requires slice-aggregate-near-rows near-rows-requires returns)
