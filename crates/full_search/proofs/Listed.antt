@@ -4,7 +4,7 @@ use mathlib.Core.Bool.{cond, _&&_}
 use mathlib.Core.List.{[], _∷_}
 use mathlib.Core.Path.{_≡_, ap}
 use lib.Dec.{leb, ltb, eqb}
-use borrow.Author.Tests.{le-leb, lt-leb, le-ltb, eq-eqb, ne-eqb}
+use borrow.Author.Tests.{le-leb, lt-leb, eq-eqb, ne-eqb}
 use Rattle.basis.proofs.Case.{then, else, both, first-fails, second-fails}
 use Rattle.record.specs.declared.MotionVector.{MotionVector}
 use Rattle.full_search.specs.declared.Scored.{Scored}
@@ -28,11 +28,6 @@ module _ (inner outer : ℕ) (d : MotionVector) where
 pub consider-cost : (f g : MotionVector → ℕ) (s : Scored) (v : MotionVector) → f v ≡ g v → consider f s v ≡ consider g s v
 unfolding consider
 consider-cost f g s v e = ap (λ (n : ℕ). cond (ltb n (s .cost)) (scored v n) s) e
-
--- what costs no less than the best so far is passed over
-pub dear-passed : (cost : MotionVector → ℕ) (s : Scored) (v : MotionVector) → s .cost ≤ cost v → consider cost s v ≡ s
-unfolding consider
-dear-passed cost s v h = else (ltb (cost v) (s .cost)) (scored v (cost v)) s (le-ltb (cost v) (s .cost) h)
 
 -- zero costs less, any other displacement its sum
 module _ (discount : ℕ) (sum : MotionVector → ℕ) (d : MotionVector) where

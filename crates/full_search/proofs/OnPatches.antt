@@ -21,7 +21,7 @@ use Rattle.full_search.specs.Told.{movedTo}
 use Rattle.full_search.specs.ToldKept.{keptOf, copiedCost, NoMoreThanZero}
 use Rattle.full_search.specs.ToldPatch.{linesSum, linesFrom, Shown, linesRight, rowColumns, KeptOn, NearPatch, MiddleStart, NearKept}
 use Rattle.full_search.proofs.Kept.{pieces-more, kept-small, zero-small}
-use Rattle.full_search.proofs.Listed.{consider-cost, dear-passed, zero-costs, other-costs}
+use Rattle.full_search.proofs.Listed.{consider-cost, zero-costs, other-costs}
 use Rattle.full_search.proofs.Patches.{strip-shown, patch-shown, narrower, strip-columns}
 use Rattle.full_search.proofs.Shown.{shown-sum, shown-right}
 
@@ -64,18 +64,6 @@ module _ (side : ℕ) (source patch : List ℕ) (at : Lines) (discount : ℕ) (d
     pub other-here : (distance d ≡ 0 → ⊥) → (p : Plane) (corner : Point) → Shown side p corner d patch at side → sum ≡ costAt p corner d
     other-here z p corner h =
         e ∙ shown-sum side p corner d source patch at h ∙ sym (other-costs discount (copiedSum (blockIn side source p corner)) d z)
-
-  -- which a part of its sum shows to cost too much, where it is not zero
-  pub too-dear : (part : ℕ) (s : Scored) {l : List MotionVector} → s .cost ≤ part → part ≤ linesSum side source side patch at
-      → (distance d ≡ 0 → ⊥) → l ≡ d ∷ [] → KeptOn side source patch at side d discount l s s
-  too-dear part s h k z g =
-      record {
-        kept =
-            λ p corner seen q.
-            let cost = costAt p corner in
-            let e = other-here (linesSum side source side patch at) refl z p corner seen in
-            (sym (ap (keptOf cost s) g ∙ dear-passed cost s d (omega (arith, e))), q);
-      }
 
 -- ---- a row
 

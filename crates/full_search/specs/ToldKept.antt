@@ -83,8 +83,8 @@ pub record BandReady (source samples : List ℕ) (t : Target) (band : List ℕ) 
   pub sixteen : t .side ≡ 16
   pub from-small : Within 4000 (first .from)
   pub run-small : first .step * first .count ≤ 2048
-  pub few : n ≤ 8
-  pub band-fits : length band ≡ (16 + first .step * first .count) * 44
+  pub few : n ≤ 4
+  pub band-fits : length band ≡ (16 + first .step * first .count) * 28
   pub best-small : NoMoreThanZero (targetCost zeroDiscount source samples t) best
 
 -- over the lattice's rows, each of which goes at most `most` samples far

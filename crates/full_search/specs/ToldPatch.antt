@@ -41,12 +41,6 @@ RowsFit side apart source = (side - 1) * apart + side ≤ length source
 abbrev pub rowSum : ℕ → List ℕ → ℕ → List ℕ → Lines → ℕ → ℕ
 rowSum side source apart window at j = sumTo side (λ i. absDiff (getD source (j * apart + i) 0) (getD window (lineAt at j + i) 0))
 
--- of rows 4 k to 4 k + 3
-abbrev pub fourRows : ℕ → List ℕ → ℕ → List ℕ → Lines → ℕ → ℕ
-fourRows side source apart window at k =
-    let row = rowSum side source apart window at in
-    row (4 * k) + row (4 * k + 1) + row (4 * k + 2) + row (4 * k + 3)
-
 unfoldable pub linesSum : ℕ → List ℕ → ℕ → List ℕ → Lines → ℕ
 linesSum side source apart window at = sumTo side (rowSum side source apart window at)
 

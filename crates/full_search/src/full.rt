@@ -250,7 +250,7 @@ fn row_below(row: Row, by: usize) -> Row
     }
 }
 
-// At most eight rows of the lattice, on a band of the reference: they are four samples apart, so that 44 rows of samples are copied
+// At most four rows of the lattice, on a band of the reference: they are four samples apart, so that 28 rows of samples are copied
 // for them and not 16 for each.
 fn band_search(
     source: &[u8],
@@ -269,7 +269,7 @@ fn band_search(
     let width = 16 + first.step * first.count;
     let from = first.from;
     let at = moved_to(corner, from);
-    plane::copy_block(reference, geometry, at, width, 44, band);
+    plane::copy_block(reference, geometry, at, width, 28, band);
     let mut b = best;
     for i in 0..n {
         let row = row_below(first, 4 * i);
@@ -284,9 +284,9 @@ fn band_search(
 
 // How many of the rows that are left go on one band.
 fn band_rows(left: usize) -> usize
-    ensures { λ r. ⌜ r ≡ min 8 left ⌝ }
+    ensures { λ r. ⌜ r ≡ min 4 left ⌝ }
 {
-    if left < 8 { left } else { 8 }
+    if left < 4 { left } else { 4 }
 }
 
 // The lattice's rows, band by band.
@@ -299,10 +299,10 @@ fn lattice_bands(
     band: &mut [u8],
     best: Scored,
 ) -> Scored
-    requires { ⌜ LatticeReady (now source) (now reference) target first lines 2048 best × ((16 + first .step * first .count) * 44 ≤ length (now band)) ⌝ }
+    requires { ⌜ LatticeReady (now source) (now reference) target first lines 2048 best × ((16 + first .step * first .count) * 28 ≤ length (now band)) ⌝ }
     ensures { λ r. ⌜ r ≡ keptOf (targetCost zeroDiscount (now (source .entry)) (now (reference .entry)) target) best (rowsBelow first lines) ⌝ }
 {
-    let size = (16 + first.step * first.count) * 44;
+    let size = (16 + first.step * first.count) * 28;
     let mut b = best;
     let mut j: usize = 0;
     while j < lines {
@@ -326,7 +326,7 @@ fn narrow_lattice(
     requires { ⌜ LatticeReady (now source) (now reference) target first lines 256 best ⌝ }
     ensures { λ r. ⌜ r ≡ keptOf (targetCost zeroDiscount (now (source .entry)) (now (reference .entry)) target) best (rowsBelow first lines) ⌝ }
 {
-    let mut band = [0u8; 11968];
+    let mut band = [0u8; 7616];
     lattice_bands(source, reference, target, first, lines, &mut band, best)
 }
 
@@ -341,7 +341,7 @@ fn wide_lattice(
     requires { ⌜ LatticeReady (now source) (now reference) target first lines 2048 best ⌝ }
     ensures { λ r. ⌜ r ≡ keptOf (targetCost zeroDiscount (now (source .entry)) (now (reference .entry)) target) best (rowsBelow first lines) ⌝ }
 {
-    let mut band = [0u8; 90816];
+    let mut band = [0u8; 57792];
     lattice_bands(source, reference, target, first, lines, &mut band, best)
 }
 

@@ -115,8 +115,7 @@ pub fn row_search(
     b
 }
 
-// One place of a 16 x 16 block, which is listed and is not zero. What is summed so far is compared after every four rows: most places
-// cost too much long before the last.
+// One place of a 16 x 16 block, which is listed and is not zero.
 fn other_place(
     source: &[u8],
     patch: &[u8],
@@ -128,13 +127,7 @@ fn other_place(
     requires { ⌜ PlaceReady 16 (now source) (now patch) (linesFrom first stride) × (distance d ≡ 0 → ⊥) ⌝ }
     ensures { λ r. ⌜ ((discount : ℕ) → KeptOn 16 (now (source .entry)) (now (patch .entry)) (linesFrom first stride) 16 d discount (d ∷ []) best r) ⌝ }
 {
-    let mut sum: u32 = 0;
-    for k in 0..4 {
-        sum += sums::four_rows(source, patch, first, stride, k);
-        if best.cost <= sum {
-            return best;
-        }
-    }
+    let sum = sums::block(source, 16, patch, first, stride, 16);
     crate::consider(best, d, sum)
 }
 

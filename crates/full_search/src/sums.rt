@@ -3,11 +3,11 @@
 // it stands in a wider one; both strides travel as numbers, since a struct would be copied for each place that is searched.
 ghost use mathlib.Core.Path.{_≡_};
 ghost use mathlib.Core.Bool.{true};
-ghost use Prim.Native.Nat.{_+_, _*_, _<_, _≤_};
+ghost use Prim.Native.Nat.{_+_, _*_, _≤_};
 ghost use lib.ListN.{length, getD};
 ghost use Rattle.basis.specs.Sums.{sumTo, absDiff};
 ghost use Rattle.plane.specs.Reference.{isSide};
-ghost use Rattle.full_search.specs.ToldPatch.{lineAt, linesFrom, LinesFit, RowsFit, rowSum, fourRows, linesSum};
+ghost use Rattle.full_search.specs.ToldPatch.{lineAt, linesFrom, LinesFit, RowsFit, rowSum, linesSum};
 
 fn difference(a: u8, b: u8) -> u32
     ensures { λ r. ⌜ (r ≡ absDiff a b) × (r ≤ 255) ⌝ }
@@ -55,18 +55,6 @@ fn row_at_8(source: &[u8], apart: usize, window: &[u8], at: usize, stride: usize
     let s = j * apart;
     let w = at + j * stride;
     row_8(&source[s..s + 8], &window[w..w + 8])
-}
-
-// Rows 4 k to 4 k + 3 of a 16 x 16 block that is listed row by row.
-pub fn four_rows(source: &[u8], window: &[u8], at: usize, stride: usize, k: usize) -> u32
-    requires { ⌜ (k < 4) × RowsFit 16 16 (now source) × LinesFit 16 (linesFrom at stride) (now window) ⌝ }
-    ensures { λ r. ⌜ (r ≡ fourRows 16 (now (source .entry)) 16 (now (window .entry)) (linesFrom at stride) k) × (r ≤ 16320) ⌝ }
-{
-    let first = row_at_16(source, 16, window, at, stride, 4 * k);
-    let second = row_at_16(source, 16, window, at, stride, 4 * k + 1);
-    let third = row_at_16(source, 16, window, at, stride, 4 * k + 2);
-    let fourth = row_at_16(source, 16, window, at, stride, 4 * k + 3);
-    first + second + third + fourth
 }
 
 fn block_16(source: &[u8], apart: usize, window: &[u8], at: usize, stride: usize) -> u32

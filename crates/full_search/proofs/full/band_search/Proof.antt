@@ -26,7 +26,7 @@ lineOf first i = rowBelow first (4 * i)
 
 abbrev Inv-loop : tie.InvT-loop
 Inv-loop source reference band first n width b₀ i₀ b i =
-    (i ≤ n) × RowsKept 16 source band (first .from) width 44 zeroDiscount (lineOf first) b₀ i b
+    (i ≤ n) × RowsKept 16 source band (first .from) width 28 zeroDiscount (lineOf first) b₀ i b
 
 abbrev μ-loop : tie.MeasureT-loop
 μ-loop source reference band first n width b₀ i₀ b i = n - i
@@ -48,12 +48,12 @@ firstPlace s = movedTo (s .args .target .corner) (s .args .first .from)
 
 -- what the band holds
 held : (c : tie.After-copy-block Inv-loop μ-loop)
-    → c .copy-block .last .1 .1 .1 .1 .1 .0 ≡ copiedBlock (planeIn (start c)) (firstPlace (start c)) (widthOf (start c)) 44
+    → c .copy-block .last .1 .1 .1 .1 .1 .0 ≡ copiedBlock (planeIn (start c)) (firstPlace (start c)) (widthOf (start c)) 28
 held c =
     let m = c .before .before in
     let a = start c .args in
     let p = start c .pre in
-    copy-is (a .reference .now) (a .target .geometry) (m .moved-to .result) (firstPlace (start c)) (widthOf (start c)) 44
+    copy-is (a .reference .now) (a .target .geometry) (m .moved-to .result) (firstPlace (start c)) (widthOf (start c)) 28
     (c .copy-block .result) (a .band .now) _ (p .ready .reference) (p .band-fits) (m .moved-to .ensures)
     (c .copy-block .ensures .0) (c .copy-block .ensures .1)
 
@@ -61,12 +61,12 @@ held c =
 room : (c : tie.In-loop Inv-loop μ-loop) (k : ℕ) → k ≤ start (copied c) .args .first .count
     → let s = start (copied c) in
     let w = widthOf s in
-    4 * c .before .loop .i * w + s .args .first .step * k + (16 - 1) * w + 16 ≤ 44 * w
+    4 * c .before .loop .i * w + s .args .first .step * k + (16 - 1) * w + 16 ≤ 28 * w
 room c k h =
     let s = start (copied c) in
     let w = widthOf s in
     let step = s .args .first .step in
-    patch-room w 44 16 (4 * c .before .loop .i) (step * k) (omega arith) (omega (arith, c .loop-test .taken, s .pre .few))
+    patch-room w 28 16 (4 * c .before .loop .i) (step * k) (omega arith) (omega (arith, c .loop-test .taken, s .pre .few))
     (omega (arith, mul-le-mul-left step h))
 
 mul-width : tie.Need-mul-width Inv-loop μ-loop
@@ -91,7 +91,7 @@ loop-holds : tie.Need-loop-holds Inv-loop μ-loop
 loop-holds c =
     let s = start (c .before .before) in
     let a = s .args in
-    (omega arith, rows-none 16 (a .source .now) _ (a .first .from) (widthOf s) 44 zeroDiscount (lineOf (a .first)) (a .best))
+    (omega arith, rows-none 16 (a .source .now) _ (a .first .from) (widthOf s) 28 zeroDiscount (lineOf (a .first)) (a .best))
 
 mul-row-below : tie.Need-mul-row-below Inv-loop μ-loop
 mul-row-below c = record { fits = omega (arith, c .loop-test .taken, start (copied c) .pre .few) }
@@ -117,7 +117,7 @@ sixteen-row-requires c κs =
     let s = start (copied l) in
     let a = s .args in
     let i = l .before .loop .i in
-    let long = copy-length (planeIn s) (firstPlace s) (widthOf s) 44 _ (held (copied l)) in
+    let long = copy-length (planeIn s) (firstPlace s) (widthOf s) 28 _ (held (copied l)) in
     let band = copied l .copy-block .last .1 .1 .1 .1 .1 .0 in
     let lines : Lines = record { first = 4 * i * widthOf s; stride = widthOf s } in
     subst (λ (r : Row). RowReady 16 (a .source .now) band lines r) (sym (k .row-below .ensures))
@@ -145,7 +145,7 @@ loop-again c =
     let a = s .args in
     let i = l .before .loop .i in (
       omega (arith, l .loop-test .taken),
-      rows-more 16 (a .source .now) _ (a .first .from) (widthOf s) 44 zeroDiscount (lineOf (a .first)) (a .best) i (4 * i) (k .row-below .result)
+      rows-more 16 (a .source .now) _ (a .first .from) (widthOf s) 28 zeroDiscount (lineOf (a .first)) (a .best) i (4 * i) (k .row-below .result)
           (l .before .loop .b) (c .sixteen-row .result) (omega (arith, l .loop-test .taken, s .pre .few))
           (strip-columns 16 (a .first .step) (a .first .count)) refl (k .row-below .ensures) (l .before .loop .inv .1) (c .sixteen-row .ensures),
     )
@@ -163,7 +163,7 @@ returns c =
     let source = a .source .now in
     let small = subst (λ (n : ℕ). NoMoreThanZero (copiedCost zeroDiscount (blockIn n source (planeIn s) corner)) (a .best)) (s .pre .sixteen) (s .pre .best-small) in
     let all =
-    rows-all 16 source _ (a .first .from) (widthOf s) 44 zeroDiscount (lineOf (a .first)) (a .best) (a .n) (l .i) (l .b)
+    rows-all 16 source _ (a .first .from) (widthOf s) 28 zeroDiscount (lineOf (a .first)) (a .best) (a .n) (l .i) (l .b)
     (omega (arith, c .loop-test .left, l .inv .0)) (l .inv .1) (planeIn s) corner (held k) small in
     subst (λ (n : ℕ). l .b ≡ keptOf (copiedCost zeroDiscount (blockIn n source (planeIn s) corner)) (a .best) (rowsBelow (a .first) (a .n)))
     (sym (s .pre .sixteen)) all

@@ -35,7 +35,7 @@ abbrev costOf : tie.Start Inv-loop μ-loop → MotionVector → ℕ
 costOf s = let a = s .args in targetCost zeroDiscount (a .source .now) (a .reference .now) (a .target)
 
 abbrev sizeOf : tie.Start Inv-loop μ-loop → ℕ
-sizeOf s = (16 + s .args .first .step * s .args .first .count) * 44
+sizeOf s = (16 + s .args .first .step * s .args .first .count) * 28
 
 -- there is room for a band
 room : (c : tie.In-loop Inv-loop μ-loop) → sizeOf (start c) ≤ length (c .before .loop .band)
@@ -121,7 +121,7 @@ add-j c =
     omega (arith, m .before .loop-test .taken, start (m .before) .pre .0 .few, m .band-rows .ensures)
 
 -- a band takes some of the rows that are left
-shrinks : (j n lines : ℕ) → j < lines → n ≡ min 8 (lines - j) → lines - (j + n) < lines - j
+shrinks : (j n lines : ℕ) → j < lines → n ≡ min 4 (lines - j) → lines - (j + n) < lines - j
 shrinks j n lines h e = omega (arith, e)
 
 loop-less : tie.Need-loop-less Inv-loop μ-loop

@@ -5,7 +5,7 @@ use borrow.Author.Needs.{needs}
 use Rattle.full_search.proofs.full.narrow_lattice.Statement.{statement}
 use Rattle.full_search.proofs.full.narrow_lattice.Tie as tie
 
-room : (n : ℕ) → n ≤ 256 → (16 + n) * 44 ≤ 11968
+room : (n : ℕ) → n ≤ 256 → (16 + n) * 28 ≤ 7616
 room n h = omega arith
 
 slice-aggregate-lattice-bands : tie.Need-slice-aggregate-lattice-bands

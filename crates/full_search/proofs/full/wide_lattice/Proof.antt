@@ -5,7 +5,7 @@ use borrow.Author.Needs.{needs}
 use Rattle.full_search.proofs.full.wide_lattice.Statement.{statement}
 use Rattle.full_search.proofs.full.wide_lattice.Tie as tie
 
-room : (n : ℕ) → n ≤ 2048 → (16 + n) * 44 ≤ 90816
+room : (n : ℕ) → n ≤ 2048 → (16 + n) * 28 ≤ 57792
 room n h = omega arith
 
 slice-aggregate-lattice-bands : tie.Need-slice-aggregate-lattice-bands
