@@ -1,7 +1,5 @@
-// The two passes over a copied block of w + 1 columns and h + 1 rows, whose rows follow each other directly. Each pass fills a buffer
-// and filters it in one long row, so that a loop is set up once a pass and not once a row.
-// Sides, rounding and largest sample come as numbers and not in a struct: read out of one, fewer samples are filtered at once. A side
-// of 16 or 8 is written out where a buffer is filled, so that a row is copied by one or two moves and not by a call.
+// The two passes over a copied block of w + 1 columns and h + 1 rows (7.6.2.2), whose rows follow each other directly. Each pass fills
+// a buffer and filters it in one long row, so that a loop is set up once a pass and not once a row.
 ghost use mathlib.Core.Path.{_≡_};
 ghost use Prim.Native.Nat.{_+_, _*_, _<_, _≤_};
 ghost use lib.ListN.{length, getD};
@@ -87,7 +85,8 @@ fn mirror_rows(src: &[u8], stride: usize, w: usize, size: usize, out: &mut [u8])
     }
 }
 
-// Each sample of a long row at the fraction, its taps d apart.
+// Each sample of a long row at the fraction, its taps d apart. What the filter rounds by and cuts to comes as numbers and not in a
+// struct: read out of one, fewer samples are filtered at once.
 fn filter_spaced(src: &[u8; 408], d: usize, fraction: u8, rc: u8, max: u8, out: &mut [u8])
     requires { ⌜ SpacedNeeds d fraction rc (length (now out)) ⌝ }
     ensures { λ _. ⌜ now (out .exit) ≡ tabulate (length (now (out .entry))) (spacedAt rc max fraction (now (src .entry)) d) ⌝ }
@@ -110,7 +109,8 @@ fn filter_spaced(src: &[u8; 408], d: usize, fraction: u8, rc: u8, max: u8, out: 
 }
 
 // The first rows of a block at the horizontal fraction, each the first w of w + 7 samples. What stands between them is filtered too,
-// and nobody reads it.
+// and nobody reads it. Sides are 16 or 8, which are written out here and below, where a buffer is filled: a row is then copied by one
+// or two moves and not by a call.
 fn filter_rows(
     block: &[u8; 289],
     w: usize,
@@ -218,8 +218,7 @@ fn copy_rows(block: &[u8; 289], w: usize, h: usize, out: &mut [u8])
     }
 }
 
-// A copied block's samples at one of the sixteen places, which is fx + 4 fy. The fractions are written out, so that each arm's loops
-// are compiled for their own.
+// A copied block's samples at one of the sixteen places, which is fx + 4 fy: an arm for each rule.
 pub fn interpolate_place(
     block: &[u8; 289],
     w: usize,

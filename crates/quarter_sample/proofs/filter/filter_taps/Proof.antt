@@ -7,18 +7,18 @@ use Rattle.quarter_sample.proofs.Lines.{at-quarter, at-half, at-three-q
 use Rattle.quarter_sample.proofs.filter.filter_taps.Statement.{statement}
 use Rattle.quarter_sample.proofs.filter.filter_taps.Tie as tie
 
-near-taps-requires : tie.Need-near-taps-requires
-near-taps-requires c κs = search needs
-
-half-taps-requires : tie.Need-half-taps-requires
-half-taps-requires c κs = search needs
-
-near-taps-requires-2 : tie.Need-near-taps-requires-2
-near-taps-requires-2 c κs = search needs
-
 -- where the call began
 abbrev start : tie.After-slice-known → tie.Start
 start c = c .before .before .before .before .before .before .before .before .before
+
+near-taps-requires : tie.Need-near-taps-requires
+near-taps-requires c κs = let s = start (c .before .before) in ((s .pre .0 .2, s .pre .1 .fits3), s .pre .1)
+
+half-taps-requires : tie.Need-half-taps-requires
+half-taps-requires c κs = let s = start (c .before .before) in (s .pre .0 .2, s .pre .1)
+
+near-taps-requires-2 : tie.Need-near-taps-requires-2
+near-taps-requires-2 c κs = let s = start (c .before .before) in ((s .pre .0 .2, s .pre .1 .fits4), s .pre .1)
 
 same-length : tie.Need-same-length
 same-length c = search needs

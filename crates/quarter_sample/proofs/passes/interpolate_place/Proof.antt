@@ -3,8 +3,9 @@ use Prim.Native.Nat.{ℕ, _+_, _*_, _<_}
 use mathlib.Core.List.{List}
 use mathlib.Core.Path.{_≡_, _∙_}
 use lib.Dec.{lit<}
+use lib.ListN.{length}
 use borrow.Author.Needs.{needs}
-use Rattle.quarter_sample.specs.ToldPasses.{rowsAt, columnsAt, wholeAt, bothAt, placeAt, blockSource}
+use Rattle.quarter_sample.specs.ToldPasses.{rowsAt, columnsAt, wholeAt, bothAt, placeAt, blockSource, PassNeeds}
 use Rattle.quarter_sample.proofs.Sixteen.{last-place}
 use Rattle.quarter_sample.proofs.Blocks.{place-by-steps, whole, across, down}
 use Rattle.quarter_sample.proofs.passes.interpolate_place.Statement.{statement}
@@ -44,53 +45,68 @@ module _ (s : tie.Start) where
   down-is : (fy : ℕ) → columnsAt w h rc max fy block (w + 1) ≡ bothAt w h rc max 0 fy block
   down-is = down rc max w h block
 
+-- what a pass needs
+pass : (s : tie.Start) (fraction : ℕ) → 0 < fraction → fraction < 4 → let a = s .args in PassNeeds (a .w) (a .h) fraction (a .rc) (length (a .out .now))
+pass s fraction p q =
+    let n = s .pre .0 in
+    record {
+      width-low = n .width-low;
+      width-high = n .width-high;
+      height-low = n .height-low;
+      height-high = n .height-high;
+      some-fraction = p;
+      fraction-small = q;
+      rc-small = n .rc-small;
+      out-fits = n .out-fits;
+    }
+
 copy-rows-requires : tie.Need-copy-rows-requires
-copy-rows-requires c κs = search needs
+copy-rows-requires c κs = let n = c .before .before .before .pre .0 in (n .width-high, n .height-high, n .out-fits)
 
 row-pass-requires : tie.Need-row-pass-requires
-row-pass-requires c κs = search needs
+row-pass-requires c κs = pass (c .before .before .before) 1 (lit< tt) (lit< tt)
 
 row-pass-requires-2 : tie.Need-row-pass-requires-2
-row-pass-requires-2 c κs = search needs
+row-pass-requires-2 c κs = pass (c .before .before .before) 2 (lit< tt) (lit< tt)
 
 row-pass-requires-3 : tie.Need-row-pass-requires-3
-row-pass-requires-3 c κs = search needs
+row-pass-requires-3 c κs = pass (c .before .before .before) 3 (lit< tt) (lit< tt)
 
 column-pass-requires : tie.Need-column-pass-requires
-column-pass-requires c κs = search needs
+column-pass-requires c κs = pass (c .before .before .before) 1 (lit< tt) (lit< tt)
 
 both-passes-requires : tie.Need-both-passes-requires
-both-passes-requires c κs = search needs
+both-passes-requires c κs = (pass (c .before .before .before) 1 (lit< tt) (lit< tt), lit< tt, lit< tt)
 
 both-passes-requires-2 : tie.Need-both-passes-requires-2
-both-passes-requires-2 c κs = search needs
+both-passes-requires-2 c κs = (pass (c .before .before .before) 2 (lit< tt) (lit< tt), lit< tt, lit< tt)
 
 both-passes-requires-3 : tie.Need-both-passes-requires-3
-both-passes-requires-3 c κs = search needs
+both-passes-requires-3 c κs = (pass (c .before .before .before) 3 (lit< tt) (lit< tt), lit< tt, lit< tt)
 
 column-pass-requires-2 : tie.Need-column-pass-requires-2
-column-pass-requires-2 c κs = search needs
+column-pass-requires-2 c κs = pass (c .before .before .before) 2 (lit< tt) (lit< tt)
 
 both-passes-requires-4 : tie.Need-both-passes-requires-4
-both-passes-requires-4 c κs = search needs
+both-passes-requires-4 c κs = (pass (c .before .before .before) 1 (lit< tt) (lit< tt), lit< tt, lit< tt)
 
 both-passes-requires-5 : tie.Need-both-passes-requires-5
-both-passes-requires-5 c κs = search needs
+both-passes-requires-5 c κs = (pass (c .before .before .before) 2 (lit< tt) (lit< tt), lit< tt, lit< tt)
 
 both-passes-requires-6 : tie.Need-both-passes-requires-6
-both-passes-requires-6 c κs = search needs
+both-passes-requires-6 c κs = (pass (c .before .before .before) 3 (lit< tt) (lit< tt), lit< tt, lit< tt)
 
 column-pass-requires-3 : tie.Need-column-pass-requires-3
-column-pass-requires-3 c κs = search needs
+column-pass-requires-3 c κs = pass (c .before .before .before) 3 (lit< tt) (lit< tt)
 
 both-passes-requires-7 : tie.Need-both-passes-requires-7
-both-passes-requires-7 c κs = search needs
+both-passes-requires-7 c κs = (pass (c .before .before .before) 1 (lit< tt) (lit< tt), lit< tt, lit< tt)
 
 both-passes-requires-8 : tie.Need-both-passes-requires-8
-both-passes-requires-8 c κs = search needs
+both-passes-requires-8 c κs = (pass (c .before .before .before) 2 (lit< tt) (lit< tt), lit< tt, lit< tt)
 
 both-passes-requires-9 : tie.Need-both-passes-requires-9
-both-passes-requires-9 c κs = search needs
+both-passes-requires-9 c κs = (pass (c .before .before .before) 3 (lit< tt) (lit< tt), lit< tt, lit< tt)
 
 same-length : tie.Need-same-length
 same-length c = search needs
