@@ -8,8 +8,8 @@ pub fn within(reach: i32, random: &mut Random) -> Vec<i32> {
     (0..64).map(|_| random.int(-reach, reach)).collect()
 }
 
-/// Residuals of every kind: even ones, single ones, stripes, and such whose first coefficient lies
-/// on a half.
+/// Residuals of every kind: even ones, single ones, stripes, and such whose first coefficient is
+/// near a half.
 pub fn residuals(turn: usize, random: &mut Random) -> Vec<i32> {
     let mut block = vec![0; 64];
     match turn % 12 {
@@ -29,13 +29,38 @@ pub fn residuals(turn: usize, random: &mut Random) -> Vec<i32> {
     block
 }
 
+/// Two residuals alone, by which a coefficient lies on a half as the original computes it: found by
+/// asking it beside one that rounds halves to even, at each place where one was found.
+const HALVES: [[(usize, i32); 2]; 16] = [
+    [(13, 3), (26, -7)],
+    [(3, -3), (40, 7)],
+    [(27, 3), (34, 7)],
+    [(9, -2), (42, 2)],
+    [(27, 2), (56, -2)],
+    [(16, 4), (61, 4)],
+    [(26, -4), (44, -4)],
+    [(11, 2), (47, 2)],
+    [(4, -4), (21, -4)],
+    [(4, 2), (39, 2)],
+    [(9, -2), (60, 2)],
+    [(39, -2), (41, -2)],
+    [(29, -2), (44, 2)],
+    [(20, 7), (50, -3)],
+    [(35, 3), (45, -7)],
+    [(0, 6), (16, 2)],
+];
+
+fn two_alone(two: [(usize, i32); 2]) -> Vec<i32> {
+    let mut block = vec![0; 64];
+    two.into_iter().for_each(|(at, residual)| block[at] = residual);
+    block
+}
+
 pub fn transforms() -> Vec<Call> {
     let mut random = Random::new(11);
-    let one = |turn| {
-        let residual = residuals(turn, &mut random);
-        Call::of("forward_dct_8x8").reads("residual", &residual).lent("out", 64)
-    };
-    (0..60).map(one).collect()
+    let any: Vec<Vec<i32>> = (0..60).map(|turn| residuals(turn, &mut random)).collect();
+    let all = any.into_iter().chain(HALVES.map(two_alone));
+    all.map(|block| Call::of("forward_dct_8x8").reads("residual", &block).lent("out", 64)).collect()
 }
 
 /// Any weights but 0; every fifth matrix is even.
