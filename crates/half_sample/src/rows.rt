@@ -92,15 +92,15 @@ fn plane_row(
     average_row(&samples[top..top_end], &samples[low..low_end], halves, out);
 }
 
-// The rows of a block of w columns and h rows. The plane's sizes are told by numbers, which go from function to function in
-// registers; a struct of more than eight bytes goes through memory.
+// The rows of a block of w columns and h rows, from a column and row y on. What they need is told by numbers, which go from
+// function to function in registers; a struct of more than eight bytes goes through memory.
 fn plane_rows(
     samples: &[u8],
     width: usize,
     height: usize,
     stride: usize,
     column: usize,
-    at: Point,
+    y: i32,
     w: usize,
     h: usize,
     halves: Halves,
@@ -108,13 +108,14 @@ fn plane_rows(
 )
     requires { ⌜ PlaneRowsNeeds (planeOf (now samples) (geometryOf width height stride)) column w h halves (length (now out)) ⌝ }
     ensures { λ _. ⌜ now (out .exit) ≡ raster w h
-        (sampleBy (planeOf (now (samples .entry)) (geometryOf width height stride)) (pos column) (at .y) halves) ⌝ }
+        (sampleBy (planeOf (now (samples .entry)) (geometryOf width height stride)) (pos column) y halves) ⌝ }
 {
     let geometry = Geometry {
         width,
         height,
         stride,
     };
+    let at = Point { x: 0, y };
     for j in 0..h {
         let from = j * w;
         let to = from + w;
@@ -139,14 +140,13 @@ fn copied_rows(
     let columns = samples_for(site.width, halves.x);
     let lines = samples_for(site.height, halves.y);
     plane::copy_block(samples, geometry, at, columns, lines, buffer);
-    let first = Point { x: 0, y: 0 };
     plane_rows(
         buffer,
         columns,
         lines,
         columns,
         0,
-        first,
+        0,
         site.width,
         site.height,
         halves,
@@ -198,7 +198,7 @@ fn averaged(
             geometry.height,
             geometry.stride,
             at.x as usize,
-            at,
+            at.y,
             site.width,
             site.height,
             halves,

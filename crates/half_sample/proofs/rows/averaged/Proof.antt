@@ -1,7 +1,7 @@
 -- `half_sample::rows::averaged` meets its contract. Assumes nothing.
 use native.Mathlib.Omega.{arith}
 use mathlib.Core.Bool.{true}
-use mathlib.Core.Path.{_≡_, sym, ap, _∙_}
+use mathlib.Core.Path.{_≡_, sym, ap, ap₂, _∙_}
 use lib.IntN.{ℤ, pos, natAbs}
 use mir.Syntax.{w32, w64}
 use mir.Val.{SFits, toZ, ofZ}
@@ -53,7 +53,7 @@ cast-plane-rows c = cast-read w32 w64 (x c) tt (fits c) (starts c)
 
 plane-rows-requires : tie.Need-plane-rows-requires
 plane-rows-requires c κs =
-    let t = c .before in
+    let t = c .before .before in
     let z = s t in
     let n = i t .before .before .samples-for in
     record {
@@ -71,11 +71,12 @@ same-length c = search needs
 
 returns : tie.Need-returns
 returns c =
-    let t = c .before .before .before .before in
+    let q = c .before .before .before in
+    let t = q .before .before in
     let a = s t .args in
     c .before .before .plane-rows .ensures
-    ∙ ap (λ (z : ℤ). raster (a .site .width) (a .site .height) (sampleBy (planeOf (a .samples .now) (a .geometry)) z (a .at .y) (a .halves)))
-    (ap pos (column-is t) ∙ above-pos (x t) (starts t))
+    ∙ ap₂ (λ (z y : ℤ). raster (a .site .width) (a .site .height) (sampleBy (planeOf (a .samples .now) (a .geometry)) z y (a .halves)))
+    (ap pos (column-is t) ∙ above-pos (x t) (starts t)) (of-bits (a .at .y) (q .struct-told3 .given .1 .0 .1))
 
 crossing-requires : tie.Need-crossing-requires
 crossing-requires c κs = search needs

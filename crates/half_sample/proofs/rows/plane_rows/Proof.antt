@@ -5,7 +5,10 @@ use mathlib.Core.List.{List}
 use mathlib.Core.Path.{_≡_, refl, sym, ap, _∙_, subst}
 use lib.IntN.{ℤ, pos}
 use lib.ListN.{length, take, drop}
-use Rattle.basis.specs.Lists.{tabulate}
+use mir.Syntax.{w32}
+use mir.Val.{toZ, ofZ}
+use mir.ValLaws.{toZ-ofZ}
+use Rattle.basis.specs.Lists.{tabulate, raster}
 use Rattle.basis.proofs.Bounds.{row-before}
 use Rattle.basis.proofs.Slices.{part-length}
 use Rattle.basis.proofs.Lists.{length-tabulate, laid, laid-none, laid-put, laid-end}
@@ -20,11 +23,11 @@ abbrev blockRow : Plane → ℕ → ℤ → Halves → ℕ → ℕ → List ℕ
 blockRow p column y halves w j = tabulate w (λ i. sampleBy p (pos column) y halves i j)
 
 abbrev Inv-loop : tie.InvT-loop
-Inv-loop samples width height stride column at w h halves out₀ geometry j₀ out j =
+Inv-loop samples width height stride column y w h halves out₀ geometry at j₀ out j =
     (j ≤ h) × (length out ≡ length out₀) × (out ≡ laid w (blockRow (planeOf samples (geometryOf width height stride)) column (at .y) halves w) j out₀)
 
 abbrev μ-loop : tie.MeasureT-loop
-μ-loop samples width height stride column at w h halves out₀ geometry j₀ out j = h - j
+μ-loop samples width height stride column y w h halves out₀ geometry at j₀ out j = h - j
 
 loop-holds : tie.Need-loop-holds Inv-loop μ-loop
 loop-holds c = (omega arith, refl, sym (laid-none _ _ (λ j. length-tabulate _ _) _))
@@ -87,14 +90,19 @@ loop-again c =
       omega arith,
       laid-put _ _ (λ j. length-tabulate _ _) (l .loop .j) (a .out .now) (l .loop .out) _ (l .loop .inv .2)
           (c .before .before .plane-row .ensures
-          ∙ ap (λ (k : ℕ). blockRow (planeOf (a .samples .now) (geometryOf (a .width) (a .height) (a .stride))) (a .column) (a .at .y) (a .halves) k (l .loop .j)) (wide t)),
+          ∙ ap (λ (k : ℕ). blockRow (planeOf (a .samples .now) (geometryOf (a .width) (a .height) (a .stride))) (a .column) (toZ w32 (ofZ w32 (a .y))) (a .halves) k (l .loop .j)) (wide t)),
     )
 
 same-length : tie.Need-same-length Inv-loop μ-loop
 same-length c = omega arith
 
 returns : tie.Need-returns Inv-loop μ-loop
-returns c = laid-end _ _ (λ j. length-tabulate _ _) _ _ _ _ (c .before .loop .inv .2) (omega arith) (omega arith)
+returns c =
+    let s = c .before .before .before .before in
+    let a = s .args in
+    let p = planeOf (a .samples .now) (geometryOf (a .width) (a .height) (a .stride)) in
+    laid-end _ _ (λ j. length-tabulate _ _) _ _ _ _ (c .before .loop .inv .2) (omega arith) (omega arith)
+    ∙ ap (λ (z : ℤ). raster (a .w) (a .h) (sampleBy p (pos (a .column)) z (a .halves))) (toZ-ofZ w32 (a .y) (s .fits .y))
 
 pub plane-rows-spec : {M : Type 1} → statement M
 plane-rows-spec =
