@@ -65,15 +65,15 @@ pub record PlaneRowNeeds (p : Plane) (column j : ℕ) (halves : Halves) (n : ℕ
   pub some-half : someHalf halves ≡ true
   pub rc-small : halves .rc < 2
 
--- a site's rows, from a column on, inside a plane
-pub record PlaneRowsNeeds (p : Plane) (column : ℕ) (site : Site) (halves : Halves) (area : ℕ) : Type 0 where
+-- h rows of w samples, from a column on, inside a plane
+pub record PlaneRowsNeeds (p : Plane) (column w h : ℕ) (halves : Halves) (area : ℕ) : Type 0 where
   pub held : Held p
-  pub inside : column + samplesFor (site .width) (halves .x) ≤ p .width
-  pub narrow : site .width ≤ 4096
-  pub low : site .height ≤ 4096
+  pub inside : column + samplesFor w (halves .x) ≤ p .width
+  pub narrow : w ≤ 4096
+  pub low : h ≤ 4096
   pub some-half : someHalf halves ≡ true
   pub rc-small : halves .rc < 2
-  pub area-fits : area ≡ site .height * site .width
+  pub area-fits : area ≡ h * w
 
 -- a block of a reference that is usable
 pub record BlockNeeds (g : Geometry) (bytes : ℕ) (site : Site) (halves : Halves) (area : ℕ) : Type 0 where

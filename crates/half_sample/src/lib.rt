@@ -133,7 +133,19 @@ pub fn interpolate_block_into(
     ensures { λ r. ⌜ r ≡ blockReply geometry (length (now (samples .entry))) vector site (length (now (out .entry))) ⌝ }
     ensures { λ r. ⌜ now (out .exit) ≡ done r (halfBlock (planeOf (now (samples .entry)) geometry) site vector rounding) (now (out .entry)) ⌝ }
 {
-    let reply = plane::block_reply(geometry, samples.len(), vector, site, out.len());
+    let corner = site.corner;
+    let reply = plane::block_numbers_reply(
+        geometry.width,
+        geometry.height,
+        geometry.stride,
+        samples.len(),
+        vector,
+        corner.x,
+        corner.y,
+        site.width,
+        site.height,
+        out.len(),
+    );
     match reply {
         Reply::Refused(why) => Reply::Refused(why),
         Reply::Done => {

@@ -7,7 +7,7 @@ ghost use Prim.Native.Nat.{_+_, _*_, _<_, _≤_};
 ghost use lib.IntN.{pos};
 ghost use lib.ListN.{length};
 ghost use Rattle.basis.specs.Lists.{tabulate, raster};
-ghost use Rattle.plane.specs.Plane.{planeOf};
+ghost use Rattle.plane.specs.Plane.{geometryOf, planeOf};
 ghost use Rattle.half_sample.specs.ToldRows.{samplesFor, averageAt, sampleBy, blockBy, someHalf, rightOf, belowOf, betweenFour};
 ghost use Rattle.half_sample.specs.ToldRows.{RowNeeds, PlaneRowNeeds, PlaneRowsNeeds, BlockNeeds};
 use crate::Halves;
@@ -45,19 +45,21 @@ fn row_d(top: &[u8], low: &[u8], rc: u16, out: &mut [u8])
     }
 }
 
+// The rest by 2 changes nothing, and tells the compiler that the rounding control is 0 or 1.
 fn average_row(top: &[u8], low: &[u8], halves: Halves, out: &mut [u8])
     requires { ⌜ RowNeeds (now top) (now low) halves (length (now out)) ⌝ }
     ensures { λ _. ⌜ now (out .exit) ≡ tabulate (length (now (out .entry))) (averageAt (now (top .entry)) (now (low .entry)) halves) ⌝ }
 {
+    let rc = halves.rc % 2;
     if halves.x {
         if halves.y {
-            row_d(top, low, halves.rc, out);
+            row_d(top, low, rc, out);
             return;
         }
-        row_b(top, halves.rc, out);
+        row_b(top, rc, out);
         return;
     }
-    row_c(top, low, halves.rc, out);
+    row_c(top, low, rc, out);
 }
 
 // How many samples a row of n takes.
@@ -90,22 +92,31 @@ fn plane_row(
     average_row(&samples[top..top_end], &samples[low..low_end], halves, out);
 }
 
-// The rows of a block as wide and as high as a site.
+// The rows of a block of w columns and h rows, from a column and row y on. What they need is told by numbers, which go from
+// function to function in registers; a struct of more than eight bytes goes through memory.
 fn plane_rows(
     samples: &[u8],
-    geometry: Geometry,
+    width: usize,
+    height: usize,
+    stride: usize,
     column: usize,
-    at: Point,
-    site: Site,
+    y: i32,
+    w: usize,
+    h: usize,
     halves: Halves,
     out: &mut [u8],
 )
-    requires { ⌜ PlaneRowsNeeds (planeOf (now samples) geometry) column site halves (length (now out)) ⌝ }
-    ensures { λ _. ⌜ now (out .exit) ≡ raster (site .width) (site .height)
-        (sampleBy (planeOf (now (samples .entry)) geometry) (pos column) (at .y) halves) ⌝ }
+    requires { ⌜ PlaneRowsNeeds (planeOf (now samples) (geometryOf width height stride)) column w h halves (length (now out)) ⌝ }
+    ensures { λ _. ⌜ now (out .exit) ≡ raster w h
+        (sampleBy (planeOf (now (samples .entry)) (geometryOf width height stride)) (pos column) y halves) ⌝ }
 {
-    let w = site.width;
-    for j in 0..site.height {
+    let geometry = Geometry {
+        width,
+        height,
+        stride,
+    };
+    let at = Point { x: 0, y };
+    for j in 0..h {
         let from = j * w;
         let to = from + w;
         plane_row(samples, geometry, column, at, j, halves, &mut out[from..to]);
@@ -129,13 +140,18 @@ fn copied_rows(
     let columns = samples_for(site.width, halves.x);
     let lines = samples_for(site.height, halves.y);
     plane::copy_block(samples, geometry, at, columns, lines, buffer);
-    let copy = Geometry {
-        width: columns,
-        height: lines,
-        stride: columns,
-    };
-    let first = Point { x: 0, y: 0 };
-    plane_rows(buffer, copy, 0, first, site, halves, out);
+    plane_rows(
+        buffer,
+        columns,
+        lines,
+        columns,
+        0,
+        0,
+        site.width,
+        site.height,
+        halves,
+        out,
+    );
 }
 
 fn crossing(
@@ -174,21 +190,27 @@ fn averaged(
     requires { ⌜ BlockNeeds geometry (length (now samples)) site halves (length (now out)) × (someHalf halves ≡ true) ⌝ }
     ensures { λ _. ⌜ now (out .exit) ≡ blockBy (planeOf (now (samples .entry)) geometry) at site halves ⌝ }
 {
-    let x = at.x;
-    if x < 0 {
-        crossing(samples, geometry, at, site, halves, out);
+    let columns = samples_for(site.width, halves.x);
+    if plane::columns_inside(at.x, columns, geometry.width) {
+        plane_rows(
+            samples,
+            geometry.width,
+            geometry.height,
+            geometry.stride,
+            at.x as usize,
+            at.y,
+            site.width,
+            site.height,
+            halves,
+            out,
+        );
         return;
     }
-    let column = x as usize;
-    if geometry.width < column + samples_for(site.width, halves.x) {
-        crossing(samples, geometry, at, site, halves, out);
-        return;
-    }
-    plane_rows(samples, geometry, column, at, site, halves, out);
+    crossing(samples, geometry, at, site, halves, out);
 }
 
-// The block as wide and as high as a site that starts at a point, or half a sample on from there. The site is handed on as it came:
-// one made anew would be read back from memory before it is there.
+// The block as wide and as high as a site that starts at a point, or half a sample on from there. What is called from one place only
+// is compiled into its caller, so that sites and sizes stay in registers: `averaged` and `crossing` are called once.
 pub fn interpolate_from(
     samples: &[u8],
     geometry: Geometry,
@@ -200,11 +222,7 @@ pub fn interpolate_from(
     requires { ⌜ BlockNeeds geometry (length (now samples)) site halves (length (now out)) ⌝ }
     ensures { λ _. ⌜ now (out .exit) ≡ blockBy (planeOf (now (samples .entry)) geometry) at site halves ⌝ }
 {
-    if halves.x {
-        averaged(samples, geometry, at, site, halves, out);
-        return;
-    }
-    if halves.y {
+    if refusal::either(halves.x, halves.y) {
         averaged(samples, geometry, at, site, halves, out);
         return;
     }

@@ -5,7 +5,12 @@ use native.Mathlib.Nat.{mul-le-mul-right}
 use mathlib.Core.Path.{_≡_, ap, ap₂, _∙_}
 use lib.IntN.{ℤ, pos}
 use lib.ListN.{length, getD}
-use Rattle.plane.specs.Plane.{Plane, clampTo, sampleAt}
+use mathlib.Core.Bool.{true}
+use lib.Dec.{eqb, leb}
+use borrow.Author.Tests.{eqb-true, leb-true}
+use Rattle.basis.specs.Parts.{above, below}
+use Rattle.refusal.proofs.Tests.{and-left, and-right}
+use Rattle.plane.specs.Plane.{Plane, clampTo, sampleAt, columnsInside}
 use Rattle.plane.specs.ToldHeld.{Held}
 
 -- row r, column c is within the samples
@@ -26,3 +31,11 @@ sample-inside p x y c r e f hc hr =
   where
     stays : (n size : ℕ) → n < size → clampTo size (pos n) ≡ n
     stays n size h = omega arith
+
+-- columns that are all inside start at or after 0, and end within the width
+module _ (x : ℤ) (w width : ℕ) (e : columnsInside x w width ≡ true) where
+  pub inside-starts : below x ≡ 0
+  inside-starts = eqb-true (below x) 0 (and-left (eqb (below x) 0) (leb (above x + w) width) e)
+
+  pub inside-ends : above x + w ≤ width
+  inside-ends = leb-true (above x + w) width (and-right (eqb (below x) 0) (leb (above x + w) width) e)

@@ -1,4 +1,5 @@
 pub mod Copied
+pub mod Front
 pub mod Inside
 pub mod LastByte
 pub mod Moved

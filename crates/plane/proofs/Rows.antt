@@ -7,11 +7,11 @@ use lib.IntN.{ℤ, pos, negsuc, _+ℤ_, _-ℤ_}
 use lib.ListN.{length, getD, take, drop}
 use Rattle.basis.specs.Parts.{above, below}
 use Rattle.basis.specs.Lists.{tabulate}
-use Rattle.basis.proofs.Lists.{tabulate-two}
+use Rattle.basis.proofs.Lists.{tabulate-two, getD-tabulate}
 use Rattle.basis.proofs.Parts.{sides, above-add, above-sub, below-sub}
 use Rattle.basis.proofs.Slices.{part-is, part-at, part-length, part-tabulate}
 use Rattle.plane.specs.Plane.{Plane, clampTo, sampleAt}
-use Rattle.plane.specs.ToldHeld.{Held, clampedIn}
+use Rattle.plane.specs.ToldHeld.{Held, clampedIn, columnAt, ColumnsIn}
 use Rattle.plane.proofs.Inside.{row-in-plane}
 
 -- n samples that all lie in the row, as the part `&row[a..a + n]` has them
@@ -92,3 +92,12 @@ inside-row p x y r n i e h k =
 -- and they lie within the samples
 pub row-end : (p : Plane) (x r n : ℕ) → Held p → r ≤ p .height - 1 → x + n ≤ p .width → r * p .stride + x + n ≤ length (p .samples)
 row-end p x r n h e k = omega (arith, row-in-plane p r h e)
+
+-- a list of columns from x on has each where it is told
+module _ (columns : List ℕ) (width : ℕ) (x : ℤ) (i : ℕ) (e : columns ≡ tabulate (length columns) (columnAt width x)) (h : i < length columns) where
+  pub at-column : getD columns i 0 ≡ columnAt width x i
+  at-column = ap (λ (l : List ℕ). getD l i 0) e ∙ getD-tabulate (length columns) (columnAt width x) i 0 h
+
+-- and all of them within a row of that width
+pub columns-in : (columns : List ℕ) (width n : ℕ) (x : ℤ) → columns ≡ tabulate (length columns) (columnAt width x) → 0 < width → n ≡ width → ColumnsIn columns n
+columns-in columns width n x e z w = record { column-in = λ i h. omega (arith, at-column columns width x i e h) }

@@ -1,9 +1,11 @@
 -- A plane of samples, read with both coordinates clamped into it (7.6.4), and blocks copied from it.
 use Prim.Native.Nat.{ℕ, _+_, _-_, _*_, min}
+use mathlib.Core.Bool.{Bool, _&&_}
 use mathlib.Core.List.{List}
+use lib.Dec.{eqb, leb}
 use lib.IntN.{ℤ, pos, _+ℤ_}
 use lib.ListN.{getD}
-use Rattle.basis.specs.Parts.{above}
+use Rattle.basis.specs.Parts.{above, below}
 use Rattle.basis.specs.Lists.{raster}
 use Rattle.plane.specs.declared.Geometry.{Geometry}
 use Rattle.plane.specs.declared.Point.{Point}
@@ -14,6 +16,9 @@ pub record Plane : Type 0 where
   pub width : ℕ
   pub height : ℕ
   pub stride : ℕ
+
+abbrev pub geometryOf : ℕ → ℕ → ℕ → Geometry
+geometryOf width height stride = record { width = width; height = height; stride = stride }
 
 abbrev pub planeOf : List ℕ → Geometry → Plane
 planeOf samples g = record { samples = samples; width = g .width; height = g .height; stride = g .stride }
@@ -33,3 +38,7 @@ copied p x y i j = sampleAt p (x +ℤ pos i) (y +ℤ pos j)
 -- w columns and h rows of the plane from a point on
 abbrev pub copiedBlock : Plane → Point → ℕ → ℕ → List ℕ
 copiedBlock p at w h = raster w h (copied p (at .x) (at .y))
+
+-- w columns from x on are all the plane's own
+abbrev pub columnsInside : ℤ → ℕ → ℕ → Bool
+columnsInside x w width = eqb (below x) 0 && leb (above x + w) width

@@ -19,6 +19,17 @@ pub record Held (p : Plane) : Type 0 where
 abbrev pub clampedIn : List ℕ → ℤ → ℕ → ℕ
 clampedIn row x i = getD row (clampTo (length row) (x +ℤ pos i)) 0
 
+-- the column that is read for column i of a block from x on
+abbrev pub columnAt : ℕ → ℤ → ℕ → ℕ
+columnAt width x i = clampTo width (x +ℤ pos i)
+
+-- the sample of a row at column i of a list of columns, each of which is the row's own
+abbrev pub gathered : List ℕ → List ℕ → ℕ → ℕ
+gathered row columns i = getD row (getD columns i 0) 0
+
+pub record ColumnsIn (columns : List ℕ) (n : ℕ) : Type 0 where
+  pub column-in : (i : ℕ) → i < length columns → getD columns i 0 < n
+
 -- what `copy_part` needs: a plane that is held, a place whose corner fits an i32, and an area for its square
 pub record PartNeeds (samples : List ℕ) (size : SourceSize) (at : MacroblockPlace) (side area : ℕ) : Type 0 where
   pub hold : Held (packed samples size)

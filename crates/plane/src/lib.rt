@@ -6,14 +6,16 @@ ghost use lib.Dec.{ltb};
 ghost use lib.IntN.{pos, _+ℤ_};
 ghost use lib.ListN.{length};
 ghost use Rattle.refusal.specs.Reply.{done};
-ghost use Rattle.plane.specs.Plane.{planeOf, clampTo, copiedBlock};
+ghost use Rattle.plane.specs.Plane.{geometryOf, planeOf, clampTo, copiedBlock, columnsInside};
 ghost use Rattle.plane.specs.Reference.{sized, originInRange, vectorInRange, isSide, referenceSizeReply, referenceBytesReply, referenceReply, motionReply, lengthReply, sideReply, blockReply, copyReply, sameReply, fetched};
+ghost use Rattle.plane.specs.Corner.{blockAt};
 use record::MotionVector;
 use refusal::Refusal;
 use refusal::Reply;
 
 mod copy;
 pub mod source;
+mod straight;
 
 // A plane has `height` rows of `stride` samples, of which the first `width` of each are the picture's.
 pub struct Geometry {
@@ -84,6 +86,20 @@ pub fn clamp_coordinate(x: i32, i: usize, size: usize) -> usize
         return size - 1;
     }
     up + i
+}
+
+// Whether w columns from x on all lie in a plane of this width, for any numbers.
+pub fn columns_inside(x: i32, w: usize, width: usize) -> bool
+    ensures { λ r. ⌜ r ≡ columnsInside x w width ⌝ }
+{
+    if x < 0 {
+        return false;
+    }
+    let column = x as usize;
+    if width < column {
+        return false;
+    }
+    w <= width - column
 }
 
 fn is_sized(geometry: Geometry) -> bool
@@ -216,7 +232,35 @@ pub fn side_reply(block_w: usize, block_h: usize) -> Reply
     )
 }
 
-// What turns an interpolation back: 4, 5, 8, 12, 14.
+// What turns an interpolation back: 4, 5, 8, 12, 14. A plane and a block are told by numbers: a struct of more than eight bytes is
+// handed on through memory, and what is read there in other pieces than it was written waits until it is there.
+pub fn block_numbers_reply(
+    width: usize,
+    height: usize,
+    stride: usize,
+    bytes: usize,
+    vector: MotionVector,
+    x: i32,
+    y: i32,
+    block_w: usize,
+    block_h: usize,
+    area: usize,
+) -> Reply
+    ensures { λ r. ⌜ r ≡ blockReply (geometryOf width height stride) bytes vector (blockAt x y «block_w» «block_h») area ⌝ }
+{
+    let geometry = Geometry {
+        width,
+        height,
+        stride,
+    };
+    let corner = Point { x, y };
+    let sides = side_reply(block_w, block_h);
+    let last = refusal::and_then(length_reply(area, block_w, block_h), sides);
+    let second = refusal::and_then(motion_reply(vector, corner), last);
+    refusal::and_then(reference_reply(geometry, bytes), second)
+}
+
+// The same of a plane and a block as structs.
 pub fn block_reply(
     geometry: Geometry,
     bytes: usize,
@@ -227,10 +271,18 @@ pub fn block_reply(
     ensures { λ r. ⌜ r ≡ blockReply geometry bytes vector site area ⌝ }
 {
     let corner = site.corner;
-    let sides = side_reply(site.width, site.height);
-    let last = refusal::and_then(length_reply(area, site.width, site.height), sides);
-    let second = refusal::and_then(motion_reply(vector, corner), last);
-    refusal::and_then(reference_reply(geometry, bytes), second)
+    block_numbers_reply(
+        geometry.width,
+        geometry.height,
+        geometry.stride,
+        bytes,
+        vector,
+        corner.x,
+        corner.y,
+        site.width,
+        site.height,
+        area,
+    )
 }
 
 // The sample at column x and row y, both clamped: 4, 5.
@@ -251,7 +303,7 @@ pub fn copy_samples(from: &[u8], out: &mut [u8]) -> Reply
     if from.len() != out.len() {
         return Reply::Refused(Refusal::Length);
     }
-    copy::copy_straight(from, out);
+    straight::copy_straight(from, out);
     Reply::Done
 }
 
@@ -276,7 +328,16 @@ pub fn copy_block(
         Reply::Refused(why) => Reply::Refused(why),
         Reply::Done => {
             if w != 0 {
-                copy::copy_rows(samples, geometry, at, w, h, out);
+                copy::copy_rows(
+                    samples,
+                    geometry.width,
+                    geometry.height,
+                    geometry.stride,
+                    at,
+                    w,
+                    h,
+                    out,
+                );
             }
             Reply::Done
         }

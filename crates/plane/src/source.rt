@@ -7,7 +7,6 @@ ghost use Rattle.plane.specs.Plane.{copiedBlock};
 ghost use Rattle.plane.specs.Corner.{cornerAt};
 ghost use Rattle.plane.specs.ToldHeld.{PartNeeds};
 ghost use Rattle.plane.specs.Source.{halved, chromaSize, packed, sourceSideReply, holds, macroblocksOf, placeReply, sourceLumaReply, sourceChromaReply, sourceReply, sourceLuma, sourceChroma, sourceLumaBlockReply, sourceChromaBlockReply};
-use crate::Geometry;
 use crate::MacroblockPlace;
 use crate::Point;
 use crate::SourceSize;
@@ -121,16 +120,20 @@ fn copy_part(samples: &[u8], size: SourceSize, place: MacroblockPlace, side: usi
     requires { ⌜ PartNeeds (now samples) size place side (length (now out)) ⌝ }
     ensures { λ _. ⌜ now (out .exit) ≡ copiedBlock (packed (now (samples .entry)) size) (cornerAt side place) side side ⌝ }
 {
-    let geometry = Geometry {
-        width: size.width,
-        height: size.height,
-        stride: size.width,
-    };
     let at = Point {
         x: (side * place.column) as i32,
         y: (side * place.row) as i32,
     };
-    crate::copy::copy_rows(samples, geometry, at, side, side, out);
+    crate::copy::copy_rows(
+        samples,
+        size.width,
+        size.height,
+        size.width,
+        at,
+        side,
+        side,
+        out,
+    );
 }
 
 // The macroblock's 16 x 16 luma samples, row by row: 6, 7, 8, 12.

@@ -1,93 +1,97 @@
 -- `plane::copy::copy_rows` meets its contract. Assumes nothing.
-use Prim.Native.Nat.{ℕ, _+_, _-_, _*_, _≤_}
+use Prim.Native.Nat.{_+_, _≤_}
 use native.Mathlib.Omega.{arith}
-use mathlib.Core.Path.{_≡_, refl, sym, ap, _∙_}
-use lib.ListN.{length, length-take, length-drop}
-use Rattle.basis.specs.Lists.{tabulate}
-use Rattle.plane.specs.declared.Geometry.{Geometry}
-use Rattle.plane.specs.declared.Point.{Point}
-use Rattle.plane.specs.Plane.{planeOf, copied}
-use mathlib.Core.List.{List}
-use Rattle.basis.proofs.Bounds.{row-before}
-use Rattle.basis.proofs.Lists.{length-tabulate, laid, laid-none, laid-put, laid-end}
+use mathlib.Core.Bool.{true}
+use mathlib.Core.Path.{_≡_, sym, ap, _∙_}
+use lib.IntN.{ℤ, pos, natAbs}
+use mir.Syntax.{w32, w64}
+use mir.Val.{SFits, toZ, ofZ}
+use Rattle.basis.specs.Parts.{above, below}
+use Rattle.basis.specs.Lists.{raster}
+use Rattle.basis.proofs.Parts.{above-pos}
+use Rattle.basis.proofs.Signed.{of-bits, cast-read, cast-value}
+use Rattle.plane.specs.Plane.{geometryOf, planeOf, copied, columnsInside}
+use Rattle.plane.proofs.Inside.{inside-starts, inside-ends}
+use borrow.Author.Needs.{needs}
 use Rattle.plane.proofs.copy.copy_rows.Statement.{statement}
 use Rattle.plane.proofs.copy.copy_rows.Tie as tie
 
--- row j of the block
-abbrev blockRow : List ℕ → Geometry → Point → ℕ → ℕ → List ℕ
-blockRow s g at w j = tabulate w (λ i. copied (planeOf s g) (at .x) (at .y) i j)
+-- where the test held, the block starts in a column of the plane
+module _ (c : tie.After-struct-told2) where
+  abbrev s : tie.Start
+  s = c .before .before .before .before .before .before .before
 
-abbrev Inv-loop : tie.InvT-loop
-Inv-loop samples geometry at w h out₀ j₀ out j =
-    (j ≤ h) × (length out ≡ length out₀) × (out ≡ laid w (blockRow samples geometry at w) j out₀)
+  abbrev x : ℤ
+  x = s .args .at .x
 
-abbrev μ-loop : tie.MeasureT-loop
-μ-loop samples geometry at w h out₀ j₀ out j = h - j
+  fits : SFits w32 x
+  fits = record { sfits = c .struct-told2 .given .0 .1 }
 
-loop-holds : tie.Need-loop-holds Inv-loop μ-loop
-loop-holds c = (omega arith, refl, sym (laid-none _ _ (λ j. length-tabulate _ _) _))
+  lies : columnsInside x (s .args .w) (s .args .width) ≡ true
+  lies =
+      let i = c .before .before .before in
+      ap (λ (z : ℤ). columnsInside z (s .args .w) (s .args .width)) (sym (of-bits x (c .struct-told2 .given .0 .1)))
+      ∙ sym (i .columns-inside .ensures) ∙ c .before .before .if1 .taken
 
--- row j of the block lies within it
-inside : (c : tie.In-loop Inv-loop μ-loop) → let a = c .before .before .before .before .args in c .before .loop .j * a .w + a .w ≤ a .h * a .w
-inside c = row-before (c .before .before .before .before .args .w) (c .loop-test .taken)
+  starts : below x ≡ 0
+  starts = inside-starts x (s .args .w) (s .args .width) lies
 
-mul-from : tie.Need-mul-from Inv-loop μ-loop
-mul-from c = omega (arith, inside c)
+  column-is : natAbs (toZ w32 (ofZ w32 x)) ≡ above x
+  column-is = cast-value w32 x fits starts
 
-add-to : tie.Need-add-to Inv-loop μ-loop
-add-to c = omega (arith, inside c)
+columns-inside-requires : tie.Need-columns-inside-requires
+columns-inside-requires c κs = search needs
 
-sub-copy-plane-row : tie.Need-sub-copy-plane-row Inv-loop μ-loop
-sub-copy-plane-row c = omega (arith, inside c)
+cast-straight-rows : tie.Need-cast-straight-rows
+cast-straight-rows c = cast-read w32 w64 (x c) tt (fits c) (starts c)
 
-part-copy-plane-row-start : tie.Need-part-copy-plane-row-start Inv-loop μ-loop
-part-copy-plane-row-start c = omega (arith, inside c)
+straight-rows-requires : tie.Need-straight-rows-requires
+straight-rows-requires c κs =
+    let t = c .before in
+    let a = s t .args in
+    (s t .pre .0, omega (arith, column-is t, inside-ends (x t) (a .w) (a .width) (lies t)), s t .pre .1)
 
-part-copy-plane-row-end : tie.Need-part-copy-plane-row-end Inv-loop μ-loop
-part-copy-plane-row-end c = omega (arith, inside c)
+same-length : tie.Need-same-length
+same-length c = search needs
 
-copy-plane-row-requires : tie.Need-copy-plane-row-requires Inv-loop μ-loop
-copy-plane-row-requires c κs = c .before .before .before .before .before .pre .0
+returns : tie.Need-returns
+returns c =
+    let t = c .before .before .before .before in
+    let a = s t .args in
+    let p = planeOf (a .samples .now) (geometryOf (a .width) (a .height) (a .stride)) in
+    c .before .before .straight-rows .ensures
+    ∙ ap (λ (z : ℤ). raster (a .w) (a .h) (copied p z (a .at .y))) (ap pos (column-is t) ∙ above-pos (x t) (starts t))
 
-add-j : tie.Need-add-j Inv-loop μ-loop
-add-j c = omega arith
+narrow-rows-requires : tie.Need-narrow-rows-requires
+narrow-rows-requires c κs = search needs
 
-loop-less : tie.Need-loop-less Inv-loop μ-loop
-loop-less c = omega arith
+same-length-2 : tie.Need-same-length-2
+same-length-2 c = search needs
 
-loop-again : tie.Need-loop-again Inv-loop μ-loop
-loop-again c =
-    let l = c .before .before .before .before .before in
-    let s = l .before .before .before in (
-      omega arith,
-      omega arith,
-      laid-put _ _ (λ j. length-tabulate _ _) (l .loop .j) (s .args .out .now) (l .loop .out) _ (l .loop .inv .2)
-          (c .before .before .copy-plane-row .ensures
-          ∙ ap (λ (k : ℕ). blockRow (s .args .samples .now) (s .args .geometry) (s .args .at) k (l .loop .j))
-          (simp (length-take, length-drop) (omega (arith, inside (c .before .before .before .before))))),
-    )
+returns-2 : tie.Need-returns-2
+returns-2 c = search needs
 
-same-length : tie.Need-same-length Inv-loop μ-loop
-same-length c = omega arith
+edge-rows-requires : tie.Need-edge-rows-requires
+edge-rows-requires c κs = search needs
 
-returns : tie.Need-returns Inv-loop μ-loop
-returns c = laid-end _ _ (λ j. length-tabulate _ _) _ _ _ _ (c .before .loop .inv .2) (omega arith) (omega arith)
+same-length-3 : tie.Need-same-length-3
+same-length-3 c = search needs
+
+returns-3 : tie.Need-returns-3
+returns-3 c = search needs
 
 pub copy-rows-spec : {M : Type 1} → statement M
 copy-rows-spec =
     tie.close
     (tie.spec
-    Inv-loop
-    μ-loop
-    loop-holds
-    mul-from
-    add-to
-    sub-copy-plane-row
-    part-copy-plane-row-start
-    part-copy-plane-row-end
-    copy-plane-row-requires
-    add-j
-    loop-less
-    loop-again
+    columns-inside-requires
+    cast-straight-rows
+    straight-rows-requires
     same-length
-    returns)
+    returns
+    narrow-rows-requires
+    same-length-2
+    returns-2
+    edge-rows-requires
+    same-length-3
+    returns-3)

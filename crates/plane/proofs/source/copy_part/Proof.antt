@@ -32,17 +32,17 @@ fit-x s = record { sfits = omega (arith, near-x s) }
 fit-y : (s : tie.Start) → SFits w32 (pos (s .args .side * s .args .place .row))
 fit-y s = record { sfits = omega (arith, near-y s) }
 
-mul-t8 : tie.Need-mul-t8
-mul-t8 c = omega (arith, near-x (c .before .before .before))
+mul-t7 : tie.Need-mul-t7
+mul-t7 c = omega (arith, near-x (c .before .before .before))
 
-cast-t9 : tie.Need-cast-t9
-cast-t9 c = fit-x (c .before .before .before)
+cast-t8 : tie.Need-cast-t8
+cast-t8 c = fit-x (c .before .before .before)
 
-mul-t10 : tie.Need-mul-t10
-mul-t10 c = omega (arith, near-y (c .before .before .before .before))
+mul-t9 : tie.Need-mul-t9
+mul-t9 c = omega (arith, near-y (c .before .before .before .before))
 
-cast-t11 : tie.Need-cast-t11
-cast-t11 c = fit-y (c .before .before .before .before)
+cast-t10 : tie.Need-cast-t10
+cast-t10 c = fit-y (c .before .before .before .before)
 
 copy-rows-requires : tie.Need-copy-rows-requires
 copy-rows-requires c κs = let p = c .before .before .before .before .before .pre in (p .hold, p .area-fits)
@@ -59,4 +59,4 @@ returns c =
 
 pub copy-part-spec : {M : Type 1} → statement M
 copy-part-spec =
-    tie.close (tie.spec mul-t8 cast-t9 mul-t10 cast-t11 copy-rows-requires same-length returns)
+    tie.close (tie.spec mul-t7 cast-t8 mul-t9 cast-t10 copy-rows-requires same-length returns)

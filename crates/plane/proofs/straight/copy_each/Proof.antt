@@ -1,11 +1,11 @@
--- `plane::copy::copy_straight` meets its contract. Assumes nothing.
+-- `plane::straight::copy_each` meets its contract. Assumes nothing.
 use Prim.Native.Nat.{_-_, _≤_}
 use native.Mathlib.Omega.{arith}
 use mathlib.Core.Path.{_≡_, refl, sym, _∙_}
 use lib.ListN.{length, getD, length-set}
 use Rattle.basis.proofs.Lists.{filled, filled-none, filled-set, filled-end, tabulate-same}
-use Rattle.plane.proofs.copy.copy_straight.Statement.{statement}
-use Rattle.plane.proofs.copy.copy_straight.Tie as tie
+use Rattle.plane.proofs.straight.copy_each.Statement.{statement}
+use Rattle.plane.proofs.straight.copy_each.Tie as tie
 
 abbrev Inv-loop : tie.InvT-loop
 Inv-loop from out₀ i₀ i-end out i =
@@ -39,8 +39,8 @@ same-length c = omega arith
 returns : tie.Need-returns Inv-loop μ-loop
 returns c = filled-end _ _ _ _ (c .before .loop .inv .3) (omega arith) ∙ tabulate-same _ _ 0 (omega arith)
 
-pub copy-straight-spec : {M : Type 1} → statement M
-copy-straight-spec =
+pub copy-each-spec : {M : Type 1} → statement M
+copy-each-spec =
     tie.close
     (tie.spec
     Inv-loop
