@@ -11,17 +11,12 @@ use Rattle.refusal.specs.declared.Reply.the-variants.{Done}
 use Rattle.refusal.specs.Reply.{unless}
 use Rattle.refusal.specs.Bounds.{isMode}
 use Rattle.record.specs.declared.MotionVector.{MotionVector}
-use Rattle.plane.specs.declared.Geometry.{Geometry}
 use Rattle.plane.specs.declared.Point.{Point}
-use Rattle.plane.specs.declared.Site.{Site}
 use Rattle.plane.specs.declared.SourceSize.{SourceSize}
 use Rattle.plane.specs.declared.MacroblockPlace.{MacroblockPlace}
 use Rattle.prediction.specs.declared.PvopMbMotion.{PvopMbMotion}
 use Rattle.prediction.specs.declared.PvopMbMotion.the-variants.{FourMv}
 use Rattle.macroblock.specs.declared.Settings.{Settings}
-
-abbrev pub geometryOf : ℕ → ℕ → ℕ → Geometry
-geometryOf width height stride = record { width = width; height = height; stride = stride }
 
 abbrev pub vectorOf : ℤ → ℤ → MotionVector
 vectorOf x y = record { x = x; y = y }
@@ -32,10 +27,6 @@ pairOf l k = vectorOf (getD l (2 * k) (pos 0)) (getD l (2 * k + 1) (pos 0))
 
 abbrev pub pointOf : ℤ → ℤ → Point
 pointOf x y = record { x = x; y = y }
-
--- its corner's column and row, then how wide and how high it is
-abbrev pub siteOf : ℤ → ℤ → ℕ → ℕ → Site
-siteOf x y width height = record { corner = pointOf x y; width = width; height = height }
 
 abbrev pub sizeOf : ℕ → ℕ → SourceSize
 sizeOf width height = record { width = width; height = height }

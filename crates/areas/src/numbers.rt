@@ -1,6 +1,7 @@
 // Structs from the numbers that C hands over.
 ghost use mathlib.Core.Path.{_≡_};
-ghost use Rattle.areas.specs.Numbers.{vectorOf, pointOf, siteOf, isSet, flagOf, modeNumberReply, fourMotion, macroblockSettings};
+ghost use Rattle.plane.specs.Corner.{blockAt};
+ghost use Rattle.areas.specs.Numbers.{vectorOf, pointOf, isSet, flagOf, modeNumberReply, fourMotion, macroblockSettings};
 use macroblock::Settings;
 use plane::Point;
 use plane::Site;
@@ -25,7 +26,7 @@ pub fn point_of(x: i32, y: i32) -> Point
 
 // A block's corner, column first, then its width and height.
 pub fn site_of(x: i32, y: i32, width: usize, height: usize) -> Site
-    ensures { λ r. ⌜ r ≡ siteOf x y width height ⌝ }
+    ensures { λ r. ⌜ r ≡ blockAt x y width height ⌝ }
 {
     let corner = Point { x, y };
     Site {

@@ -3,11 +3,12 @@ ghost use mathlib.Core.Path.{_≡_};
 ghost use lib.ListN.{length};
 ghost use Rattle.refusal.specs.Number.{codeOf};
 ghost use Rattle.refusal.specs.Reply.{done};
-ghost use Rattle.plane.specs.Plane.{planeOf};
+ghost use Rattle.plane.specs.Plane.{planeOf, geometryOf};
 ghost use Rattle.prediction.specs.Luma.{modeOf, predictedBlock};
 ghost use Rattle.prediction.specs.Macroblock.{macroblockLuma};
 ghost use Rattle.prediction.specs.declared.PvopMbMotion.the-variants.{OneMv};
-ghost use Rattle.areas.specs.Numbers.{geometryOf, vectorOf, pointOf, siteOf, fourMotion};
+ghost use Rattle.plane.specs.Corner.{blockAt};
+ghost use Rattle.areas.specs.Numbers.{vectorOf, pointOf, fourMotion};
 ghost use Rattle.hencouch.specs.Predicted.{lumaBlockReply, lumaMacroblockReply};
 use plane::Geometry;
 use plane::Point;
@@ -91,7 +92,7 @@ pub extern "C" fn hencouch_predict_luma_block(
     ensures { λ r. ⌜ (
         let geometry = geometryOf width height stride in
         let vector = vectorOf «mv_x» «mv_y» in
-        let site = siteOf «origin_x» «origin_y» «block_w» «block_h» in
+        let site = blockAt «origin_x» «origin_y» «block_w» «block_h» in
         let reply = lumaBlockReply mode «bits_per_pixel» geometry (length (now (samples .entry))) vector site (length (now (out .entry))) in
         let block = predictedBlock (modeOf mode «bits_per_pixel») (planeOf (now (samples .entry)) geometry) site rounding vector in
         (r ≡ codeOf reply) × (now (out .exit) ≡ done reply block (now (out .entry)))

@@ -4,14 +4,15 @@ ghost use Prim.Native.Nat.{_%_};
 ghost use lib.ListN.{length};
 ghost use Rattle.refusal.specs.Number.{codeOf};
 ghost use Rattle.refusal.specs.Reply.{done};
-ghost use Rattle.plane.specs.Plane.{planeOf};
+ghost use Rattle.plane.specs.Plane.{planeOf, geometryOf};
 ghost use Rattle.plane.specs.Reference.{blockReply};
 ghost use Rattle.half_sample.specs.Average.{pixelOf};
 ghost use Rattle.half_sample.specs.Split.{splitHalf};
 ghost use Rattle.half_sample.specs.Block.{halfBlock};
 ghost use Rattle.quarter_sample.specs.Block.{quarterBlock, quarterReply};
 ghost use Rattle.quarter_sample.specs.Split.{splitQuarter};
-ghost use Rattle.areas.specs.Numbers.{geometryOf, vectorOf, siteOf, isSet, flagOf};
+ghost use Rattle.plane.specs.Corner.{blockAt};
+ghost use Rattle.areas.specs.Numbers.{vectorOf, isSet, flagOf};
 use plane::Geometry;
 
 // Half samples: 4, 5, 8, 12, 14.
@@ -33,7 +34,7 @@ pub extern "C" fn hencouch_interpolate_block_into(
     ensures { λ r. ⌜ (
         let geometry = geometryOf width height stride in
         let vector = vectorOf «mv_x» «mv_y» in
-        let site = siteOf «origin_x» «origin_y» «block_w» «block_h» in
+        let site = blockAt «origin_x» «origin_y» «block_w» «block_h» in
         let reply = blockReply geometry (length (now (samples .entry))) vector site (length (now (out .entry))) in
         let block = halfBlock (planeOf (now (samples .entry)) geometry) site vector rounding in
         (r ≡ codeOf reply) × (now (out .exit) ≡ done reply block (now (out .entry)))
@@ -70,7 +71,7 @@ pub extern "C" fn hencouch_interpolate_block_qpel_into(
     ensures { λ r. ⌜ (
         let geometry = geometryOf width height stride in
         let vector = vectorOf «mv_x» «mv_y» in
-        let site = siteOf «origin_x» «origin_y» «block_w» «block_h» in
+        let site = blockAt «origin_x» «origin_y» «block_w» «block_h» in
         let reply = quarterReply «bits_per_pixel» geometry (length (now (samples .entry))) vector site (length (now (out .entry))) in
         let block = quarterBlock (planeOf (now (samples .entry)) geometry) site vector rounding «bits_per_pixel» in
         (r ≡ codeOf reply) × (now (out .exit) ≡ done reply block (now (out .entry)))

@@ -7,8 +7,8 @@ use mir.ValLaws.{toZ-ofZ}
 use Rattle.refusal.specs.Number.{codeOf}
 use Rattle.refusal.specs.Reply.{done}
 use Rattle.plane.specs.declared.Point.{Point}
-use Rattle.plane.specs.Plane.{planeOf, copiedBlock}
-use Rattle.areas.specs.Numbers.{geometryOf, pointOf}
+use Rattle.plane.specs.Plane.{planeOf, copiedBlock, geometryOf}
+use Rattle.areas.specs.Numbers.{pointOf}
 use borrow.Author.Needs.{needs}
 use Rattle.hencouch.proofs.copied.hencouch_copy_block.Statement.{statement}
 use Rattle.hencouch.proofs.copied.hencouch_copy_block.Tie as tie

@@ -4,9 +4,8 @@ use lib.ListN.{length}
 use mir.Syntax.{w32}
 use mir.ValLaws.{toZ-ofZ}
 use Rattle.plane.specs.declared.Fetched.{Fetched}
-use Rattle.plane.specs.Plane.{planeOf, sampleAt}
+use Rattle.plane.specs.Plane.{planeOf, sampleAt, geometryOf}
 use Rattle.plane.specs.Reference.{referenceReply, fetched}
-use Rattle.areas.specs.Numbers.{geometryOf}
 use Rattle.hencouch.specs.ToldFetched.{fetchedCode, fetchedIn}
 use Rattle.hencouch.proofs.Fetching.{code-of, left-by}
 use borrow.Author.Needs.{needs}

@@ -13,7 +13,8 @@ use Rattle.record.specs.declared.MotionVector.{MotionVector}
 use Rattle.search.specs.declared.EstimatedFour.{EstimatedFour}
 use Rattle.search.specs.Request.{searchRequest}
 use Rattle.search.specs.Estimate.{estimateFour}
-use Rattle.areas.specs.Numbers.{geometryOf, vectorOf, sizeOf, macroblockAt}
+use Rattle.plane.specs.Plane.{geometryOf}
+use Rattle.areas.specs.Numbers.{vectorOf, sizeOf, macroblockAt}
 use Rattle.areas.specs.Search.{fourAreasReply, vectorsArea}
 use borrow.Author.Needs.{needs}
 use Rattle.hencouch.proofs.motion.hencouch_estimate_motion_4mv.Statement.{statement}

@@ -9,11 +9,11 @@ use Rattle.refusal.specs.declared.Reply.{Reply}
 use Rattle.refusal.specs.Number.{codeOf}
 use Rattle.refusal.specs.Reply.{done}
 use Rattle.plane.specs.declared.Point.{Point}
-use Rattle.plane.specs.Plane.{planeOf}
+use Rattle.plane.specs.Plane.{planeOf, geometryOf}
 use Rattle.prediction.specs.declared.PvopMbMotion.{PvopMbMotion}
 use Rattle.prediction.specs.Luma.{modeOf}
 use Rattle.prediction.specs.Macroblock.{macroblockLuma}
-use Rattle.areas.specs.Numbers.{geometryOf, pointOf}
+use Rattle.areas.specs.Numbers.{pointOf}
 use Rattle.hencouch.specs.Predicted.{lumaMacroblockReply}
 use borrow.Author.Needs.{needs}
 use Rattle.hencouch.proofs.predicted.hencouch_predict_luma_macroblock_4mv.Statement.{

@@ -4,7 +4,8 @@ use Rattle.macroblock.specs.declared.Settings.{Settings}
 use Rattle.macroblock.specs.Request.{request}
 use Rattle.picture.specs.declared.Run.{Run}
 use Rattle.picture.specs.Run.{nextPlace, StepAnswer, stepOf}
-use Rattle.areas.specs.Numbers.{geometryOf, sizeOf, macroblockSettings}
+use Rattle.plane.specs.Plane.{geometryOf}
+use Rattle.areas.specs.Numbers.{sizeOf, macroblockSettings}
 use Rattle.areas.specs.Whole.{RecordAreas, recordAreas}
 use Rattle.hencouch.proofs.Runs.{stepped-out}
 use borrow.Author.Needs.{needs}

@@ -10,10 +10,11 @@ use Rattle.refusal.specs.Number.{codeOf}
 use Rattle.refusal.specs.Reply.{done}
 use Rattle.record.specs.declared.MotionVector.{MotionVector}
 use Rattle.plane.specs.declared.Site.{Site}
-use Rattle.plane.specs.Plane.{planeOf}
+use Rattle.plane.specs.Plane.{planeOf, geometryOf}
 use Rattle.plane.specs.Reference.{blockReply}
 use Rattle.half_sample.specs.Block.{halfBlock}
-use Rattle.areas.specs.Numbers.{geometryOf, vectorOf, siteOf}
+use Rattle.plane.specs.Corner.{blockAt}
+use Rattle.areas.specs.Numbers.{vectorOf}
 use borrow.Author.Needs.{needs}
 use Rattle.hencouch.proofs.sample.hencouch_interpolate_block_into.Statement.{statement}
 use Rattle.hencouch.proofs.sample.hencouch_interpolate_block_into.Tie as tie
@@ -33,12 +34,12 @@ vector-is c =
     c .vector-of .ensures ∙ ap₂ vectorOf (toZ-ofZ w32 (s .args .mv-x) (s .fits .mv-x)) (toZ-ofZ w32 (s .args .mv-y) (s .fits .mv-y))
 
 site-is : (c : tie.After-site-of) → let a = c .before .before .before .before .args in
-    c .site-of .result ≡ siteOf (a .origin-x) (a .origin-y) (a .block-w) (a .block-h)
+    c .site-of .result ≡ blockAt (a .origin-x) (a .origin-y) (a .block-w) (a .block-h)
 site-is c =
     let s = c .before .before .before .before in
     let a = s .args in
     c .site-of .ensures
-    ∙ λ i. siteOf (toZ-ofZ w32 (a .origin-x) (s .fits .origin-x) i) (toZ-ofZ w32 (a .origin-y) (s .fits .origin-y) i) (a .block-w) (a .block-h)
+    ∙ λ i. blockAt (toZ-ofZ w32 (a .origin-x) (s .fits .origin-x) i) (toZ-ofZ w32 (a .origin-y) (s .fits .origin-y) i) (a .block-w) (a .block-h)
 
 vector-of-requires : tie.Need-vector-of-requires
 vector-of-requires c κs = search needs

@@ -3,7 +3,8 @@ use mathlib.Core.Path.{ap, _∙_}
 use Rattle.macroblock.specs.declared.Settings.{Settings}
 use Rattle.macroblock.specs.Answer.{answerOf}
 use Rattle.macroblock.specs.Request.{Request, request}
-use Rattle.areas.specs.Numbers.{geometryOf, sizeOf, macroblockAt, macroblockSettings}
+use Rattle.plane.specs.Plane.{geometryOf}
+use Rattle.areas.specs.Numbers.{sizeOf, macroblockAt, macroblockSettings}
 use Rattle.areas.specs.Whole.{RecordAreas, recordAreas}
 use Rattle.hencouch.proofs.Records.{record-laid-out}
 use borrow.Author.Needs.{needs}
