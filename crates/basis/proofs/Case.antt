@@ -31,9 +31,6 @@ pub second-holds : (a b : Bool) → a ≡ false → (a || b) ≡ true → b ≡ 
 second-holds true b e h = absurd (let z : _≡_ {A = ℕ} 0 1 = cc in omega arith)
 second-holds false b e h = h
 
-pub or-left : (a b : Bool) → a ≡ true → (a || b) ≡ true
-or-left a b e = ap (λ (t : Bool). t || b) e
-
 pub or-right : (a b : Bool) → b ≡ true → (a || b) ≡ true
 or-right true b e = refl
 or-right false b e = e

@@ -77,7 +77,7 @@ pub record WideReady (source samples : List ℕ) (t : Target) (w : ℕ) (best : 
   pub window-small : w ≤ 1023
   pub best-small : NoMoreThanZero (targetCost zeroDiscount source samples t) best
 
--- over at most eight rows of places, on a band of the reference
+-- over at most four rows of places, on a band of the reference
 pub record BandReady (source samples : List ℕ) (t : Target) (band : List ℕ) (first : Row) (n : ℕ) (best : Scored) : Type 0 where
   pub ready : Ready source samples t
   pub sixteen : t .side ≡ 16
