@@ -49,6 +49,11 @@ pub word-is : (t : Text) (w : List ℕ) → pushes (pushed t 32) w ≡ pushes t 
 unfolding spaced pushes
 word-is t w = ap (pushes (pushed t 32)) (sym (append-nil w))
 
+-- what a word writes is known
+pub word-known : {A : Type 0} {r : Text} {x y : A} (u : Text) (f : A → List ℕ)
+    → r ≡ pushes u (spaced (f x ∷ [])) → x ≡ y → r ≡ pushes u (spaced (f y ∷ []))
+word-known {A} u f e p = e ∙ ap (λ (z : A). pushes u (spaced (f z ∷ []))) p
+
 -- the newline ends a line
 pub ended : {r u : Text} (t : Text) (ws : List (List ℕ)) → r ≡ pushed u 10 → u ≡ pushes t (concatenated ws) → r ≡ pushes t (lineOf ws)
 unfolding lineOf pushes

@@ -6,6 +6,10 @@ use lib.Dec.{ltb}
 use lib.ListN.{replicate, set}
 use Rattle.clip.specs.declared.Text.{Text}
 
+-- the text in the first `len` of the places
+abbrev pub textIn : List ℕ → ℕ → Text
+textIn bytes len = record { bytes = bytes; len = len }
+
 abbrev pub noText : Text
 noText = record { bytes = replicate 198 0; len = 0 }
 

@@ -8,7 +8,7 @@ ghost use Rattle.record.specs.Count.{fourTotal};
 ghost use Rattle.clip.specs.Header.{headOf, noHead, headReply, headerOf};
 ghost use Rattle.clip.specs.Planes.{planeLengthsOf};
 ghost use Rattle.clip.specs.Text.{textOf};
-ghost use Rattle.clip.specs.ToldPush.{noText, pushes};
+ghost use Rattle.clip.specs.ToldPush.{textIn, pushes};
 ghost use Rattle.clip.specs.Line.{spaced, concatenated, refusalLine, macroblockWords, fourWords, macroblockLine};
 use record::Record;
 use refusal::Refusal;
@@ -134,24 +134,26 @@ pub fn plane_lengths(head: Head) -> PlaneLengths
 pub fn refusal_line(why: Refusal) -> Text
     ensures { λ r. ⌜ (r ≡ textOf (refusalLine why)) × (r .len ≤ 198) ⌝ }
 {
-    let start = write::put_bytes(write::no_text(), b"refused");
-    let whole = write::word(start, write::wide8(refusal::number(why)));
-    write::push(whole, b'\n')
+    let mut bytes = [0u8; 198];
+    let start = write::put_bytes(&mut bytes, 0, b"refused");
+    let whole = write::word(&mut bytes, start, write::wide8(refusal::number(why)));
+    let len = write::push(&mut bytes, whole, b'\n');
+    Text { bytes, len }
 }
 
 // Column, row, vector, sum, patterns, events.
-fn macroblock_words(column: usize, row: usize, given: Record) -> Text
-    ensures { λ r. ⌜ r ≡ pushes noText (concatenated (macroblockWords column row given)) ⌝ }
+fn macroblock_words(bytes: &mut [u8; 198], column: usize, row: usize, given: Record) -> usize
+    ensures { λ r. ⌜ textIn (now (bytes .exit)) r ≡ pushes (textIn (now (bytes .entry)) 0) (concatenated (macroblockWords column row given)) ⌝ }
 {
     let vector = given.vector;
     let counts = given.counts;
-    let start = write::number(write::no_text(), write::wide(column));
-    let place = write::word(start, write::wide(row));
-    let moved = write::vector_words(place, vector);
-    let summed = write::word(moved, write::wide32(given.sum));
-    let luma = write::word(summed, write::wide8(given.luma_pattern));
-    let chroma = write::word(luma, write::wide8(given.chroma_pattern));
-    write::word(chroma, record::event_count(counts))
+    let start = write::number(bytes, 0, write::wide(column));
+    let place = write::word(bytes, start, write::wide(row));
+    let moved = write::vector_words(bytes, place, vector);
+    let summed = write::word(bytes, moved, write::wide32(given.sum));
+    let luma = write::word(bytes, summed, write::wide8(given.luma_pattern));
+    let chroma = write::word(bytes, luma, write::wide8(given.chroma_pattern));
+    write::word(bytes, chroma, record::event_count(counts))
 }
 
 fn total(given: Record) -> u64
@@ -162,31 +164,34 @@ fn total(given: Record) -> u64
 }
 
 // The four vectors and the total of their sums.
-fn four_words(start: Text, given: Record) -> Text
-    ensures { λ r. ⌜ r ≡ pushes start (spaced (fourWords given)) ⌝ }
+fn four_words(bytes: &mut [u8; 198], at: usize, given: Record) -> usize
+    ensures { λ r. ⌜ textIn (now (bytes .exit)) r ≡ pushes (textIn (now (bytes .entry)) at) (spaced (fourWords given)) ⌝ }
 {
     let vectors = given.vectors;
-    let first = write::vector_words(start, vectors[0]);
-    let second = write::vector_words(first, vectors[1]);
-    let third = write::vector_words(second, vectors[2]);
-    let fourth = write::vector_words(third, vectors[3]);
-    write::word(fourth, total(given))
+    let first = write::vector_words(bytes, at, vectors[0]);
+    let second = write::vector_words(bytes, first, vectors[1]);
+    let third = write::vector_words(bytes, second, vectors[2]);
+    let fourth = write::vector_words(bytes, third, vectors[3]);
+    write::word(bytes, fourth, total(given))
 }
 
 // The words that follow where four vectors were searched for.
-fn further_words(start: Text, given: Record, four: bool) -> Text
-    ensures { λ r. ⌜ r ≡ pushes start (spaced (cond four (fourWords given) [])) ⌝ }
+fn further_words(bytes: &mut [u8; 198], at: usize, given: Record, four: bool) -> usize
+    ensures { λ r. ⌜ textIn (now (bytes .exit)) r ≡ pushes (textIn (now (bytes .entry)) at) (spaced (cond four (fourWords given) [])) ⌝ }
 {
     if four {
-        return four_words(start, given);
+        return four_words(bytes, at, given);
     }
-    start
+    at
 }
 
 // A macroblock's line, whatever its record holds.
 pub fn macroblock_line(column: usize, row: usize, given: Record, four: bool) -> Text
     ensures { λ r. ⌜ (r ≡ textOf (macroblockLine column row given four)) × (r .len ≤ 198) ⌝ }
 {
-    let start = macroblock_words(column, row, given);
-    write::push(further_words(start, given, four), b'\n')
+    let mut bytes = [0u8; 198];
+    let own = macroblock_words(&mut bytes, column, row, given);
+    let all = further_words(&mut bytes, own, given, four);
+    let len = write::push(&mut bytes, all, b'\n');
+    Text { bytes, len }
 }

@@ -1,11 +1,11 @@
-// Text by value that grows byte by byte, word by word.
+// Text that grows byte by byte, word by word, in places that are lent, so that a byte is written and the rest is not copied for it:
+// each function answers how far the text then reaches.
 ghost use mathlib.Core.Path.{_≡_};
 ghost use mathlib.Core.List.{[], _∷_};
 ghost use Prim.Native.Nat.{_+_, _<_};
 ghost use Rattle.clip.specs.Decimal.{decimal, decimalZ};
-ghost use Rattle.clip.specs.ToldPush.{noText, pushed, pushes};
+ghost use Rattle.clip.specs.ToldPush.{textIn, pushed, pushes};
 ghost use Rattle.clip.specs.Line.{spaced, vectorWords};
-use crate::Text;
 use record::MotionVector;
 
 pub fn wide(n: usize) -> u64
@@ -26,38 +26,27 @@ pub fn wide8(n: u8) -> u64
     n as u64
 }
 
-pub fn no_text() -> Text
-    ensures { λ r. ⌜ r ≡ noText ⌝ }
-{
-    Text {
-        bytes: [0; 198],
-        len: 0,
-    }
-}
-
 // One byte more, where there is room.
-pub fn push(start: Text, b: u8) -> Text
-    ensures { λ r. ⌜ r ≡ pushed start b ⌝ }
+pub fn push(bytes: &mut [u8; 198], at: usize, b: u8) -> usize
+    ensures { λ r. ⌜ textIn (now (bytes .exit)) r ≡ pushed (textIn (now (bytes .entry)) at) b ⌝ }
 {
-    let at = start.len;
     if at < 198 {
-        let mut bytes = start.bytes;
         bytes[at] = b;
-        return Text { bytes, len: at + 1 };
+        return at + 1;
     }
-    start
+    at
 }
 
-pub fn put_bytes(start: Text, s: &[u8]) -> Text
-    ensures { λ r. ⌜ r ≡ pushes start (now (s .entry)) ⌝ }
+pub fn put_bytes(bytes: &mut [u8; 198], at: usize, s: &[u8]) -> usize
+    ensures { λ r. ⌜ textIn (now (bytes .exit)) r ≡ pushes (textIn (now (bytes .entry)) at) (now (s .entry)) ⌝ }
 {
-    let mut t = start;
+    let mut end = at;
     let mut i: usize = 0;
     while i < s.len() {
-        t = push(t, s[i]);
+        end = push(bytes, end, s[i]);
         i += 1;
     }
-    t
+    end
 }
 
 fn digit(n: u64) -> u8
@@ -68,41 +57,45 @@ fn digit(n: u64) -> u8
 }
 
 // The digits of n: those of a tenth of it, and its last.
-pub fn number(start: Text, n: u64) -> Text
-    ensures { λ r. ⌜ r ≡ pushes start (decimal n) ⌝ }
+pub fn number(bytes: &mut [u8; 198], at: usize, n: u64) -> usize
+    ensures { λ r. ⌜ textIn (now (bytes .exit)) r ≡ pushes (textIn (now (bytes .entry)) at) (decimal n) ⌝ }
 {
     if n < 10 {
-        return push(start, digit(n));
+        return push(bytes, at, digit(n));
     }
-    let front = number(start, n / 10);
-    push(front, digit(n % 10))
+    let front = number(bytes, at, n / 10);
+    push(bytes, front, digit(n % 10))
 }
 
-fn signed(start: Text, x: i32) -> Text
-    ensures { λ r. ⌜ r ≡ pushes start (decimalZ x) ⌝ }
+fn signed(bytes: &mut [u8; 198], at: usize, x: i32) -> usize
+    ensures { λ r. ⌜ textIn (now (bytes .exit)) r ≡ pushes (textIn (now (bytes .entry)) at) (decimalZ x) ⌝ }
 {
     let n = wide32(basis::magnitude(x));
     if x < 0 {
-        return number(push(start, b'-'), n);
+        let minus = push(bytes, at, b'-');
+        return number(bytes, minus, n);
     }
-    number(start, n)
+    number(bytes, at, n)
 }
 
-pub fn word(start: Text, n: u64) -> Text
-    ensures { λ r. ⌜ r ≡ pushes start (spaced (decimal n ∷ [])) ⌝ }
+pub fn word(bytes: &mut [u8; 198], at: usize, n: u64) -> usize
+    ensures { λ r. ⌜ textIn (now (bytes .exit)) r ≡ pushes (textIn (now (bytes .entry)) at) (spaced (decimal n ∷ [])) ⌝ }
 {
-    number(push(start, b' '), n)
+    let space = push(bytes, at, b' ');
+    number(bytes, space, n)
 }
 
-fn signed_word(start: Text, x: i32) -> Text
-    ensures { λ r. ⌜ r ≡ pushes start (spaced (decimalZ x ∷ [])) ⌝ }
+fn signed_word(bytes: &mut [u8; 198], at: usize, x: i32) -> usize
+    ensures { λ r. ⌜ textIn (now (bytes .exit)) r ≡ pushes (textIn (now (bytes .entry)) at) (spaced (decimalZ x ∷ [])) ⌝ }
 {
-    signed(push(start, b' '), x)
+    let space = push(bytes, at, b' ');
+    signed(bytes, space, x)
 }
 
 // Horizontal, then vertical.
-pub fn vector_words(start: Text, v: MotionVector) -> Text
-    ensures { λ r. ⌜ r ≡ pushes start (spaced (vectorWords v)) ⌝ }
+pub fn vector_words(bytes: &mut [u8; 198], at: usize, v: MotionVector) -> usize
+    ensures { λ r. ⌜ textIn (now (bytes .exit)) r ≡ pushes (textIn (now (bytes .entry)) at) (spaced (vectorWords v)) ⌝ }
 {
-    signed_word(signed_word(start, v.x), v.y)
+    let across = signed_word(bytes, at, v.x);
+    signed_word(bytes, across, v.y)
 }

@@ -1,13 +1,12 @@
 -- `clip::four_words` meets its contract. Assumes nothing.
 use Prim.Native.Nat.{ℕ}
 use mathlib.Core.List.{List, [], _∷_, _++_}
-use mathlib.Core.Path.{ap, _∙_}
 use borrow.Author.Needs.{needs}
 use Rattle.record.specs.Count.{fourTotal}
 use Rattle.clip.specs.Decimal.{decimal}
-use Rattle.clip.specs.Line.{spaced, vectorWords, vectorAt, fourWords}
-use Rattle.clip.specs.ToldPush.{pushes}
-use Rattle.clip.proofs.Lines.{spaced-more}
+use Rattle.clip.specs.Line.{vectorWords, vectorAt, fourWords}
+use Rattle.clip.specs.ToldPush.{textIn}
+use Rattle.clip.proofs.Lines.{spaced-more, word-known}
 use Rattle.clip.proofs.four_words.Statement.{statement}
 use Rattle.clip.proofs.four_words.Tie as tie
 
@@ -45,18 +44,18 @@ returns : tie.Need-returns
 unfolding fourWords
 returns c =
     let total = c .before in
-    let fourth = total .before in
-    let third = fourth .before .before in
-    let second = third .before .before in
-    let first = second .before .before in
-    let a = first .before .before .before .args in
+    let fourth = total .before .before in
+    let third = fourth .before .before .before in
+    let second = third .before .before .before in
+    let first = second .before .before .before in
+    let a = first .before .before .before .before .args in
+    let start = textIn (a .bytes .now) (a .at) in
     let words : ℕ → List (List ℕ) = λ i. vectorWords (vectorAt (a .given) i) in
-    spaced-more (a .start) (words 0 ++ (words 1 ++ (words 2 ++ words 3))) (decimal (fourTotal (a .given .sums)) ∷ [])
-    (c .word .ensures
-    ∙ ap (λ (n : ℕ). pushes (fourth .vector-words4 .result) (spaced (decimal n ∷ []))) (total .total .ensures))
-    (spaced-more (a .start) (words 0 ++ (words 1 ++ words 2)) (words 3) (fourth .vector-words4 .ensures)
-    (spaced-more (a .start) (words 0 ++ words 1) (words 2) (third .vector-words3 .ensures)
-    (spaced-more (a .start) (words 0) (words 1) (second .vector-words2 .ensures) (first .vector-words .ensures))))
+    spaced-more start (words 0 ++ (words 1 ++ (words 2 ++ words 3))) (decimal (fourTotal (a .given .sums)) ∷ [])
+    (word-known _ decimal (c .word .ensures) (total .total .ensures))
+    (spaced-more start (words 0 ++ (words 1 ++ words 2)) (words 3) (fourth .vector-words4 .ensures)
+    (spaced-more start (words 0 ++ words 1) (words 2) (third .vector-words3 .ensures)
+    (spaced-more start (words 0) (words 1) (second .vector-words2 .ensures) (first .vector-words .ensures))))
 
 pub four-words-spec : {M : Type 1} → statement M
 four-words-spec =

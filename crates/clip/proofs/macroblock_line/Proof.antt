@@ -22,12 +22,14 @@ push-requires c κs = search needs
 returns : tie.Need-returns
 unfolding macroblockLine
 returns c =
-    let s = c .before .before .before in
+    let all = c .before .before in
+    let own = all .before .before in
+    let s = own .before .before in
     let a = s .args in
     let vs = cond (a .four) (fourWords (a .given)) [] in
     held-whole _ (macroblockLine (a .column) (a .row) (a .given) (a .four))
     (ended noText (macroblockWords (a .column) (a .row) (a .given) ++ vs) (c .push .ensures)
-    (further-more noText (a .column) (a .row) (a .given) vs (c .before .further-words .ensures) (c .before .before .macroblock-words .ensures)))
+    (further-more noText (a .column) (a .row) (a .given) vs (all .further-words .ensures) (own .macroblock-words .ensures)))
     (line-short (a .column) (a .row) (a .given) (a .four) (s .fits .column .fits) (s .fits .row .fits) (typed-record (a .given) _ (s .good .1 .1 .0)))
 
 pub macroblock-line-spec : {M : Type 1} → statement M

@@ -1,24 +1,21 @@
 -- `clip::macroblock_words` meets its contract. Assumes nothing.
 use Prim.Native.Nat.{ℕ}
 use mathlib.Core.List.{List, [], _∷_, _++_}
-use mathlib.Core.Path.{_≡_, ap, ap₂, _∙_}
+use mathlib.Core.Path.{_≡_, ap, _∙_}
 use borrow.Author.Needs.{needs}
 use Rattle.clip.specs.declared.Text.{Text}
 use Rattle.clip.specs.Decimal.{decimal}
 use Rattle.clip.specs.Line.{spaced, concatenated, vectorWords, macroblockWords}
-use Rattle.clip.specs.ToldPush.{noText, pushes}
-use Rattle.clip.proofs.Lines.{begun, concatenated-more}
+use Rattle.clip.specs.ToldPush.{textIn, pushes}
+use Rattle.clip.proofs.Lines.{begun, concatenated-more, word-known}
 use Rattle.clip.proofs.macroblock_words.Statement.{statement}
 use Rattle.clip.proofs.macroblock_words.Tie as tie
 
 -- a word more, whose number is known
-more : {r u : Text} {n : ℕ} (m : ℕ) (w : List ℕ) (ws : List (List ℕ)) → r ≡ pushes u (spaced (decimal n ∷ [])) → n ≡ m
-    → u ≡ pushes noText (concatenated (w ∷ ws)) → r ≡ pushes noText (concatenated (w ∷ (ws ++ (decimal m ∷ []))))
-more {r} {u} m w ws e p f =
-    concatenated-more noText w ws (decimal m ∷ []) (e ∙ ap (λ (k : ℕ). pushes u (spaced (decimal k ∷ []))) p) f
-
-no-text-requires : tie.Need-no-text-requires
-no-text-requires c κs = search needs
+more : {r u : Text} {n : ℕ} (t : Text) (m : ℕ) (w : List ℕ) (ws : List (List ℕ)) → r ≡ pushes u (spaced (decimal n ∷ [])) → n ≡ m
+    → u ≡ pushes t (concatenated (w ∷ ws)) → r ≡ pushes t (concatenated (w ∷ (ws ++ (decimal m ∷ []))))
+more {r} {u} t m w ws e p f =
+    concatenated-more t w ws (decimal m ∷ []) (word-known u decimal e p) f
 
 wide-requires : tie.Need-wide-requires
 wide-requires c κs = search needs
@@ -63,35 +60,33 @@ returns : tie.Need-returns
 unfolding macroblockWords
 returns c =
     let events = c .before in
-    let chroma = events .before in
-    let luma = chroma .before .before in
-    let summed = luma .before .before in
-    let moved = summed .before .before in
-    let place = moved .before in
-    let start = place .before .before in
+    let chroma = events .before .before in
+    let luma = chroma .before .before .before in
+    let summed = luma .before .before .before in
+    let moved = summed .before .before .before in
+    let place = moved .before .before in
+    let start = place .before .before .before in
     let column = start .before in
-    let none = column .before in
-    let a = none .before .before .before .args in
+    let a = column .before .before .before .before .args in
     let m = a .given in
+    let t = textIn (a .bytes .now) 0 in
     let w = decimal (a .column) in
     let v = decimal (a .row) ∷ vectorWords (m .vector) in
     let p = v ++ (decimal (m .sum) ∷ []) in
     let q = p ++ (decimal (m .«luma_pattern») ∷ []) in
-    more _ w (q ++ (decimal (m .«chroma_pattern») ∷ [])) (c .word5 .ensures) (events .event-count .ensures)
-    (more _ w q (chroma .word4 .ensures) (chroma .before .wide82 .ensures .0)
-    (more _ w p (luma .word3 .ensures) (luma .before .wide8 .ensures .0)
-    (more _ w v (summed .word2 .ensures) (summed .before .wide32 .ensures .0)
-    (concatenated-more noText w (decimal (a .row) ∷ []) (vectorWords (m .vector)) (moved .vector-words .ensures)
-    (more _ w [] (place .word .ensures) (place .before .wide2 .ensures)
-    (begun noText w
-    (start .number .ensures
-    ∙ ap₂ (λ (t : Text) (n : ℕ). pushes t (decimal n)) (none .no-text .ensures) (column .wide .ensures))))))))
+    more t _ w (q ++ (decimal (m .«chroma_pattern») ∷ [])) (c .word5 .ensures) (events .event-count .ensures)
+    (more t _ w q (chroma .word4 .ensures) (chroma .before .wide82 .ensures .0)
+    (more t _ w p (luma .word3 .ensures) (luma .before .wide8 .ensures .0)
+    (more t _ w v (summed .word2 .ensures) (summed .before .wide32 .ensures .0)
+    (concatenated-more t w (decimal (a .row) ∷ []) (vectorWords (m .vector)) (moved .vector-words .ensures)
+    (more t _ w [] (place .word .ensures) (place .before .wide2 .ensures)
+    (begun t w
+    (start .number .ensures ∙ ap (λ (n : ℕ). pushes t (decimal n)) (column .wide .ensures))))))))
 
 pub macroblock-words-spec : {M : Type 1} → statement M
 macroblock-words-spec =
     tie.close
     (tie.spec
-    no-text-requires
     wide-requires
     number-requires
     wide-requires-2

@@ -7,19 +7,19 @@ use Rattle.clip.specs.ToldPush.{pushed}
 use Rattle.clip.proofs.write.push.Statement.{statement}
 use Rattle.clip.proofs.write.push.Tie as tie
 
-array-write-bytes : tie.Need-array-write-bytes
-array-write-bytes c = search needs
+element-write-bytes : tie.Need-element-write-bytes
+element-write-bytes c = search needs
 
-add-t9 : tie.Need-add-t9
-add-t9 c = search needs
+add-result : tie.Need-add-result
+add-result c = search needs
 
 returns : tie.Need-returns
 unfolding pushed
-returns c = sym (then _ _ _ (lt-ltb _ _ (c .before .if1 .taken)))
+returns c = sym (then _ _ _ (lt-ltb _ _ (c .if1 .taken)))
 
 returns-2 : tie.Need-returns-2
 unfolding pushed
 returns-2 c = sym (else _ _ _ (le-ltb _ _ (c .if1 .left)))
 
 pub push-spec : {M : Type 1} → statement M
-push-spec = tie.close (tie.spec array-write-bytes add-t9 returns returns-2)
+push-spec = tie.close (tie.spec element-write-bytes add-result returns returns-2)

@@ -5,16 +5,16 @@ use mathlib.Core.Path.{_≡_, refl, ap, _∙_}
 use lib.ListN.{length, take, getD}
 use lib.Seq.{take-all}
 use Rattle.clip.specs.declared.Text.{Text}
-use Rattle.clip.specs.ToldPush.{pushed, pushes}
+use Rattle.clip.specs.ToldPush.{textIn, pushed, pushes}
 use Rattle.clip.proofs.Texts.{pushes-more}
 use Rattle.clip.proofs.write.put_bytes.Statement.{statement}
 use Rattle.clip.proofs.write.put_bytes.Tie as tie
 
 abbrev Inv-loop : tie.InvT-loop
-Inv-loop s t₀ i₀ t i = (i ≤ length s) × (t ≡ pushes t₀ (take i s))
+Inv-loop bytes₀ at s end₀ i₀ bytes end i = (i ≤ length s) × (textIn bytes end ≡ pushes (textIn bytes₀ at) (take i s))
 
 abbrev μ-loop : tie.MeasureT-loop
-μ-loop s t₀ i₀ t i = length s - i
+μ-loop bytes₀ at s end₀ i₀ bytes end i = length s - i
 
 loop-holds : tie.Need-loop-holds Inv-loop μ-loop
 unfolding pushes
@@ -34,18 +34,19 @@ loop-less c = omega arith
 
 loop-again : tie.Need-loop-again Inv-loop μ-loop
 loop-again c =
-    let l = c .before .before .before in
+    let l = c .before .before .before .before in
     let a = l .before .before .args in (
       omega arith,
       c .push .ensures
           ∙ ap (λ (x : Text). pushed x (getD (a .s .now) (l .loop .i) 0)) (l .loop .inv .1)
-          ∙ pushes-more (a .start) (a .s .now) (l .loop .i) (omega arith),
+          ∙ pushes-more (textIn (a .bytes .now) (a .at)) (a .s .now) (l .loop .i) (omega arith),
     )
 
 returns : tie.Need-returns Inv-loop μ-loop
 returns c =
     let l = c .before in
-    l .loop .inv .1 ∙ ap (pushes (l .before .before .args .start)) (take-all _ _ (c .loop-test .left))
+    let a = l .before .before .args in
+    l .loop .inv .1 ∙ ap (pushes (textIn (a .bytes .now) (a .at))) (take-all _ _ (c .loop-test .left))
 
 pub put-bytes-spec : {M : Type 1} → statement M
 put-bytes-spec =

@@ -9,7 +9,7 @@ use mir.ValLaws.{toZ-ofZ}
 use borrow.Author.Needs.{needs}
 use Rattle.clip.specs.declared.Text.{Text}
 use Rattle.clip.specs.Decimal.{decimal}
-use Rattle.clip.specs.ToldPush.{pushed, pushes}
+use Rattle.clip.specs.ToldPush.{textIn, pushed, pushes}
 use Rattle.clip.proofs.Digits.{minus-first, no-minus}
 use Rattle.clip.proofs.write.signed.Statement.{statement}
 use Rattle.clip.proofs.write.signed.Tie as tie
@@ -38,24 +38,27 @@ number-requires c κs = search needs
 returns : tie.Need-returns
 unfolding pushes
 returns c =
-    let t = c .before .before in
+    let t = c .before .before .before .before in
     let s = t .before .before .before in
-    let n = t .before .wide32 .result in
+    let a = s .args in
+    let start = textIn (a .bytes .now) (a .at) in
     c .number .ensures
-    ∙ ap (λ (t : Text). pushes t (decimal n)) (c .before .push .ensures)
-    ∙ ap (λ (n : ℕ). pushes (pushed (s .args .start) 45) (decimal n)) (size-is (t .before))
-    ∙ ap (pushes (s .args .start)) (sym (minus-first (s .args .x) (test-is s ∙ t .if1 .taken)))
+    ∙ ap (λ (x : Text). pushes x (decimal (t .before .wide32 .result))) (c .before .before .push .ensures)
+    ∙ ap (λ (n : ℕ). pushes (pushed start 45) (decimal n)) (size-is (t .before))
+    ∙ ap (pushes start) (sym (minus-first (a .x) (test-is s ∙ t .if1 .taken)))
 
 number-requires-2 : tie.Need-number-requires-2
 number-requires-2 c κs = search needs
 
 returns-2 : tie.Need-returns-2
 returns-2 c =
-    let e = c .before in
+    let e = c .before .before in
     let s = e .before .before .before in
+    let a = s .args in
+    let start = textIn (a .bytes .now) (a .at) in
     c .number2 .ensures
-    ∙ ap (λ (n : ℕ). pushes (s .args .start) (decimal n)) (size-is (e .before))
-    ∙ ap (pushes (s .args .start)) (sym (no-minus (s .args .x) (test-is s ∙ e .if1 .left)))
+    ∙ ap (λ (n : ℕ). pushes start (decimal n)) (size-is (e .before))
+    ∙ ap (pushes start) (sym (no-minus (a .x) (test-is s ∙ e .if1 .left)))
 
 pub signed-spec : {M : Type 1} → statement M
 signed-spec =

@@ -3,7 +3,7 @@ use mathlib.Core.Path.{ap, _∙_}
 use borrow.Author.Needs.{needs}
 use Rattle.clip.specs.declared.Text.{Text}
 use Rattle.clip.specs.Decimal.{decimal}
-use Rattle.clip.specs.ToldPush.{pushes}
+use Rattle.clip.specs.ToldPush.{textIn, pushes}
 use Rattle.clip.proofs.Lines.{word-is}
 use Rattle.clip.proofs.write.word.Statement.{statement}
 use Rattle.clip.proofs.write.word.Tie as tie
@@ -16,8 +16,11 @@ number-requires c κs = search needs
 
 returns : tie.Need-returns
 returns c =
-    let a = c .before .before .args in
-    c .number .ensures ∙ ap (λ (t : Text). pushes t (decimal (a .n))) (c .before .push .ensures) ∙ word-is (a .start) (decimal (a .n))
+    let p = c .before .before in
+    let a = p .before .before .args in
+    c .number .ensures
+    ∙ ap (λ (t : Text). pushes t (decimal (a .n))) (p .push .ensures)
+    ∙ word-is (textIn (a .bytes .now) (a .at)) (decimal (a .n))
 
 pub word-spec : {M : Type 1} → statement M
 word-spec = tie.close (tie.spec push-requires number-requires returns)
