@@ -76,7 +76,8 @@ impl<'a> Calls<'a> {
 
     /// The file's next bytes.
     fn first(&mut self, count: usize) -> &'a [u8] {
-        let (first, rest) = self.bytes.split_at_checked(count).expect("the file ends within a call");
+        let (first, rest) =
+            self.bytes.split_at_checked(count).expect("the file ends within a call");
         self.bytes = rest;
         first
     }
