@@ -37,11 +37,13 @@ crate = $(RUST) --crate-type rlib --crate-name hencouch -L native=$(2) \
   -o $(1)/libhencouch.rlib bindings/rust/src/lib.rs
 
 # Sets of rows: the crates whose entries they call, and these entries.
-ROWS := half_sample quarter_sample fdct levels search coding macroblock broodline
+ROWS := half_sample quarter_sample prediction fdct levels search coding macroblock broodline
 CRATES_half_sample := half_sample
 ENTRIES_half_sample := interpolate_block_into
 CRATES_quarter_sample := quarter_sample
 ENTRIES_quarter_sample := interpolate_block_qpel_into
+CRATES_prediction := prediction
+ENTRIES_prediction := predict_macroblock predict_macroblock_4mv
 CRATES_fdct := fdct
 ENTRIES_fdct := forward_dct_8x8
 CRATES_levels := quantise scan
@@ -51,13 +53,12 @@ ENTRIES_search := estimate_motion estimate_motion_4mv
 CRATES_coding := coding
 ENTRIES_coding := macroblock_residual quantise_inter_residual
 CRATES_macroblock := macroblock
-ENTRIES_macroblock := code_macroblock intra_activity
+ENTRIES_macroblock := code_macroblock code_predicted_macroblock intra_activity
 CRATES_broodline := macroblock
 ENTRIES_broodline := code_macroblock
 # The set that watches a crate, where it has not the crate's name.
 ROWS_OF_quantise := levels
 ROWS_OF_scan := levels
-ROWS_OF_prediction := search
 ROWS_OF_full_search := search
 ROWS_OF_picture := broodline
 ROWS_OF_clip := broodline
@@ -202,7 +203,7 @@ bench: originals $(BENCH_NEEDS)
 
 # A library of the entries that these rows call, in a repository of its own: see only.sh.
 only:
-	$(if $(TIMED),,$(error ONLY=$(ONLY) has no rows: one of $(ROWS) quantise scan prediction full_search picture clip play))
+	$(if $(TIMED),,$(error ONLY=$(ONLY) has no rows: one of $(ROWS) quantise scan full_search picture clip play))
 	sh oracle/only/only.sh target/only/$(TIMED) '$(CRATES_$(TIMED))' '$(ENTRIES_$(TIMED))'
 	cd target/only/$(TIMED) && rt staticlib hencouch
 	$(if $(filter search macroblock broodline,$(TIMED)),@objdump -d $(BENCH_LIBDIR)/libhencouch.a | $(COUNT_PSADBW))

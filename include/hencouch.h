@@ -20,7 +20,7 @@
  * Threads. There is no state between calls. Calls may run at once as long as none writes to what
  * another reads or writes.
  *
- * Memory. No heap, and at most 80 KiB of stack (make stack: 64.6 by the machine code).
+ * Memory. No heap, and at most 80 KiB of stack (make stack: 65.0 by the machine code).
  */
 #ifndef HENCOUCH_H
 #define HENCOUCH_H
@@ -117,6 +117,7 @@ uint8_t hencouch_copy_block(
  *    8  origin_x or origin_y outside -4096..4096, or mv_x or mv_y outside -2048..2047
  *   12  out_len not block_w * block_h
  *   14  block_w or block_h neither 8 nor 16
+ *   31  rounding above 1
  */
 uint8_t hencouch_predict_luma_block(
     const uint8_t *samples, size_t samples_len, size_t width, size_t height, size_t stride,
@@ -132,6 +133,7 @@ uint8_t hencouch_predict_luma_block(
  * Refused:
  *    2, 3, 4, 5, 8  as above, 8 for each block's vector and own corner
  *   12  out_len not 256
+ *   31  rounding above 1
  */
 uint8_t hencouch_predict_luma_macroblock(
     const uint8_t *samples, size_t samples_len, size_t width, size_t height, size_t stride,
@@ -417,6 +419,120 @@ uint8_t hencouch_step(
  *   23  before the last macroblock: run[2] below the macroblocks of run[0] x run[1] samples
  */
 uint8_t hencouch_close(const uint64_t run[5], uint64_t totals[3]);
+
+/*
+ * The prediction made here: for callers who have none to lend. A macroblock's 384 samples come from
+ * the reference's three planes, its vector or its four, and a rounding type, 0 or 1.
+ *
+ * The reference's chroma planes have half of luma's sides, rounded up, and one stride for both. Luma
+ * is predicted as hencouch_predict_luma_macroblock does; chroma by half-sample interpolation in
+ * either mode, 8 x 8 samples at the chroma vector, clamped at the chroma planes' own edges.
+ *
+ * The chroma vector is in half samples of chroma, its horizontal and its vertical each by itself. In
+ * mode 1 every luma vector is first halved toward zero, of four each before they are added. One
+ * vector is then in quarters of a chroma sample: its whole samples, rounded down, stay, and a
+ * fraction of 1, 2 or 3 quarters becomes a half. Four are added: the sum's size over 16 gives whole
+ * samples, of the remainder 0 to 2 add nothing, 3 to 13 a half, 14 and 15 a whole; the sign returns
+ * last.
+ */
+
+/*
+ * The chroma vector of a macroblock's one vector, or of its four, to vector, horizontal, then
+ * vertical. vectors holds each one's horizontal, then vertical. mode 0 is half samples, 1 quarter
+ * samples.
+ *
+ * Refused:
+ *    2  mode neither 0 nor 1
+ *    8  a vector's horizontal or vertical outside -2048..2047
+ */
+uint8_t hencouch_chroma_vector(uint32_t mode, int32_t mv_x, int32_t mv_y, int32_t vector[2]);
+uint8_t hencouch_chroma_vector_4mv(uint32_t mode, const int32_t vectors[8], int32_t vector[2]);
+
+/*
+ * Predicts the macroblock at column and row, which count macroblocks: 16 x 16 samples to y, 8 x 8 to
+ * cb and cr, row by row. By one vector, or by four, one for each of its 8 x 8 luma blocks, 0 and 1
+ * above 2 and 3. width, height and stride are luma's. bits_per_pixel counts in mode 1 only, and for
+ * luma only.
+ *
+ * Refused:
+ *    2  mode neither 0 nor 1
+ *    3  mode 1, bits_per_pixel not 1..8
+ *    4  width or height not 1..4096, stride not width..8192, or chroma_stride not from chroma's
+ *       width, (width + 1) / 2, to 8192
+ *    5  ref_y_len not above (height - 1) * stride + width - 1, or ref_cb_len or ref_cr_len not above
+ *       the same of chroma's sides and stride; after every 4
+ *    8  column or row above 256, or above 255 where there are four vectors; or a vector's horizontal
+ *       or vertical outside -2048..2047
+ *   12  y_len not 256, or cb_len or cr_len not 64
+ *   31  rounding above 1
+ */
+uint8_t hencouch_predict_macroblock(
+    const uint8_t *ref_y, size_t ref_y_len, const uint8_t *ref_cb, size_t ref_cb_len,
+    const uint8_t *ref_cr, size_t ref_cr_len,
+    size_t width, size_t height, size_t stride, size_t chroma_stride,
+    uint32_t mode, uint32_t bits_per_pixel, int32_t mv_x, int32_t mv_y,
+    size_t column, size_t row, uint8_t rounding,
+    uint8_t *y, size_t y_len, uint8_t *cb, size_t cb_len, uint8_t *cr, size_t cr_len);
+uint8_t hencouch_predict_macroblock_4mv(
+    const uint8_t *ref_y, size_t ref_y_len, const uint8_t *ref_cb, size_t ref_cb_len,
+    const uint8_t *ref_cr, size_t ref_cr_len,
+    size_t width, size_t height, size_t stride, size_t chroma_stride,
+    uint32_t mode, uint32_t bits_per_pixel, const int32_t vectors[8],
+    size_t column, size_t row, uint8_t rounding,
+    uint8_t *y, size_t y_len, uint8_t *cb, size_t cb_len, uint8_t *cr, size_t cr_len);
+
+/*
+ * Searches for the macroblock at column and row, predicts it by the vectors found, the four where
+ * vectors is 4, and codes its residual against that; the arguments are as above, and what is written
+ * as for hencouch_code_macroblock. A reader who has the reference's planes, the record and rounding
+ * gets the same 384 samples by hencouch_predict_macroblock, or by the form for four vectors. The
+ * sums are at rounding type 0, whatever rounding is.
+ *
+ * Refused:
+ *    1, 2, 3  as for hencouch_estimate_motion
+ *    4, 5  as for hencouch_predict_macroblock, of ref_width and ref_height
+ *    6, 7, 8  as for hencouch_macroblock_residual
+ *   10, 11  as for hencouch_quantise_inter_block
+ *   12  weights_len not 64; lasts_len, runs_len or levels_len not 384
+ *   14  vectors neither 1 nor 4, or scan not 0..2
+ *   31  rounding above 1
+ */
+uint8_t hencouch_code_predicted_macroblock(
+    uint32_t fcode, uint32_t mode, uint32_t bits_per_pixel, uint32_t quantiser,
+    uint8_t first_method, uint32_t vectors, uint32_t scan, uint8_t rounding,
+    const uint8_t *ref_y, size_t ref_y_len, const uint8_t *ref_cb, size_t ref_cb_len,
+    const uint8_t *ref_cr, size_t ref_cr_len,
+    size_t ref_width, size_t ref_height, size_t stride, size_t chroma_stride,
+    const uint8_t *y, size_t y_len, const uint8_t *cb, size_t cb_len,
+    const uint8_t *cr, size_t cr_len, size_t width, size_t height, size_t column, size_t row,
+    const uint8_t *weights, size_t weights_len,
+    uint8_t *lasts, size_t lasts_len, uint8_t *runs, size_t runs_len,
+    int32_t *levels, size_t levels_len,
+    int32_t vector[2], uint32_t *sum, int32_t four_vectors[8], uint32_t four_sums[4],
+    uint8_t patterns[2], uint8_t counts[6]);
+
+/*
+ * Does the same for the run's next macroblock: what hencouch_step is to hencouch_code_macroblock.
+ * The two kinds of step may follow each other in a run.
+ *
+ * Refused:
+ *   21, 22  as for hencouch_step
+ *    1, 2, 3, 4, 5, 6, 7, 10, 11, 12, 14, 31  as above, after 21 and 22
+ */
+uint8_t hencouch_step_predicted(
+    uint64_t run[5],
+    uint32_t fcode, uint32_t mode, uint32_t bits_per_pixel, uint32_t quantiser,
+    uint8_t first_method, uint32_t vectors, uint32_t scan, uint8_t rounding,
+    const uint8_t *ref_y, size_t ref_y_len, const uint8_t *ref_cb, size_t ref_cb_len,
+    const uint8_t *ref_cr, size_t ref_cr_len,
+    size_t ref_width, size_t ref_height, size_t stride, size_t chroma_stride,
+    const uint8_t *y, size_t y_len, const uint8_t *cb, size_t cb_len,
+    const uint8_t *cr, size_t cr_len, size_t width, size_t height,
+    const uint8_t *weights, size_t weights_len,
+    uint8_t *lasts, size_t lasts_len, uint8_t *runs, size_t runs_len,
+    int32_t *levels, size_t levels_len,
+    int32_t vector[2], uint32_t *sum, int32_t four_vectors[8], uint32_t four_sums[4],
+    uint8_t patterns[2], uint8_t counts[6]);
 
 #ifdef __cplusplus
 }

@@ -14,6 +14,8 @@ mod levels_bench;
 #[allow(dead_code)]
 mod macroblock_bench;
 #[allow(dead_code)]
+mod predicted_bench;
+#[allow(dead_code)]
 mod sample_bench;
 #[allow(dead_code)]
 mod search_bench;
@@ -53,6 +55,8 @@ fn main() {
     sample_bench::bench::<sample_bench::Half>(&mut wanted);
     #[cfg(timed = "quarter_sample")]
     sample_bench::bench::<sample_bench::Quarter>(&mut wanted);
+    #[cfg(timed = "prediction")]
+    predicted_bench::bench(&mut wanted);
     #[cfg(timed = "fdct")]
     transform_bench::bench(&mut wanted);
     #[cfg(timed = "levels")]
@@ -65,6 +69,7 @@ fn main() {
     {
         macroblock_bench::parts::bench(macroblock_bench::parts::MACROBLOCK, &mut wanted);
         macroblock_bench::bench(&mut wanted);
+        macroblock_bench::predicted::bench(&mut wanted);
     }
     #[cfg(timed = "broodline")]
     clip_bench::bench(_broodline, &mut wanted);

@@ -18,6 +18,7 @@ mod levels;
 mod luma;
 mod macroblock;
 mod options;
+mod predicting;
 mod run;
 mod sample;
 mod search;
@@ -25,6 +26,7 @@ mod single;
 mod summary;
 mod tally;
 mod transform;
+mod turns;
 
 use options::{Options, USAGE};
 use std::process::exit;
@@ -38,11 +40,12 @@ fn main() {
     let options = Options::parse(&words).unwrap_or_else(|text| wrong(text));
     let (header, page) = (text(&options.header), text(&options.page));
     println!("seed {}", options.seed);
-    let groups: [fn(&Options) -> Vec<Row>; 11] = [
+    let groups: [fn(&Options) -> Vec<Row>; 12] = [
         sample::compare,
         single::compare,
         copied::compare,
         luma::compare,
+        predicting::compare,
         transform::compare,
         levels::compare,
         events::compare,

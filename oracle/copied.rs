@@ -9,9 +9,10 @@ use crate::guard::{held, Lent};
 use crate::half_sample::ReferenceVop;
 use crate::options::Options;
 use crate::random::Random;
-use crate::sample::plane::{self, SHAPES};
+use crate::sample::plane::{self, Plane, SHAPES};
 use crate::summary::Row;
 use crate::tally::Tally;
+use crate::turns;
 use hencouch::raw;
 
 const PLANES: &str = "planes";
@@ -128,7 +129,7 @@ pub fn compare(options: &Options) -> Vec<Row> {
 
 fn valid_calls(function: Function, options: &Options, row: &mut Row, random: &mut Random) {
     let mut counted = Counted::new(function.name(), all_marks(function));
-    plane::calls(options.valid, row, random, |plane, row, random| {
+    turns::calls(options.valid, plane::CALLS, row, random, |plane: &Plane, row, random| {
         let call = valid(function, plane.reference(), random);
         row.valid(call.check(0, random.byte()));
         counted.count(marks_of(&call, plane.shape));

@@ -63,7 +63,7 @@ impl Counted {
             missing.extend(none.map(|(n, _)| format!("{title}: {n}")));
         }
         if self.calls >= self.enough && !missing.is_empty() {
-            return Err(format!("{name}: the valid calls left out {}", missing.join(", ")));
+            return Err(format!("{name}: the calls left out {}", missing.join(", ")));
         }
         Ok(())
     }

@@ -2,6 +2,8 @@
 //! macroblock's place and with other settings, for the groups that take them: refusals written from
 //! the list and independent of the library, and random damage.
 
+pub mod planes;
+
 use crate::ask::{Reference, Source};
 use crate::random::Random;
 use std::fmt::Display;
@@ -180,6 +182,12 @@ pub fn mode(random: &mut Random) -> u32 {
 /// A quantiser outside 1..31.
 pub fn quantiser(random: &mut Random) -> u32 {
     random.pick(&[0, 0, 32, 33, 255, 256 + 5, 1 << 31, u32::MAX])
+}
+
+/// A rounding type above 1.
+pub fn rounding(random: &mut Random) -> u8 {
+    let any = random.byte().max(2);
+    random.pick(&[2, 2, 3, 128, 254, 255, any])
 }
 
 /// A scan that is none of the three.

@@ -9,7 +9,7 @@ use crate::inverse_quant::{inverse_quant_method2_coef, saturate_fprime};
 use crate::motion::MotionVector;
 use crate::pvop_encode::{luma_view, mv_range, source_luma_mb, Place};
 use crate::quantise::{quantise_method1_inter, quantise_method2_inter};
-use crate::quarter_sample::interpolate_block_qpel_into;
+use crate::quarter_sample::{interpolate_block_qpel_into, reduce_qpel_to_half_pel_chroma};
 use hencouch::raw;
 use std::panic::{catch_unwind, set_hook, take_hook};
 
@@ -64,6 +64,27 @@ fn half_here(side: usize, origin_x: i32, mv_x: i32, out_len: usize) -> u8 {
     let (len, width, height, stride) = ONE;
     let reference = plane(len, width, height, stride);
     ask::interpolate_block_into(&reference, &block(side, origin_x, mv_x), &mut vec![0; out_len])
+}
+
+/// The same at a rounding type.
+fn rounded(rounding: u8) -> String {
+    let vop = ReferenceVop::new(&SAMPLES[..1], 1, 1).expect("one sample");
+    let mut out = [0; 64];
+    interpolate_block_into(&vop, 0, 0, 0, 0, 8, 8, rounding, &mut out);
+    let written = out.iter().filter(|&&sample| sample == 100).count();
+    format!("writes {written}")
+}
+
+fn rounded_here(rounding: u8) -> u8 {
+    let (samples, out) = (&SAMPLES[..1], &mut [0; 64]);
+    raw::predict_luma_block(samples, 1, 1, 1, 0, 8, 0, 0, 0, 0, 8, 8, rounding, out)
+}
+
+/// One sample of each plane.
+fn predicted_here(chroma_stride: usize) -> u8 {
+    let one = &SAMPLES[..1];
+    let (y, cb, cr) = (&mut [0; 256], &mut [0; 64], &mut [0; 64]);
+    raw::predict_macroblock(one, one, one, 1, 1, 1, chroma_stride, 0, 8, 0, 0, 0, 0, 0, y, cb, cr)
 }
 
 /// Between the two in the middle the filter gives 319.
@@ -267,4 +288,19 @@ const CASES: &[Case] = &[
     ("scan 3", "has none", 14, nothing, || raw::forward_scan(&[0; 64], 3, &mut [0; 64])),
     ("a prediction of 255 samples", "has none", 12, nothing, || residual_here(&SAMPLES[..255])),
     ("2 vectors", "has none", 14, nothing, || coded_here(2)),
+    (
+        "the chroma vector of 2,048",
+        "gives 1024",
+        8,
+        || format!("gives {}", reduce_qpel_to_half_pel_chroma(2048)),
+        || raw::chroma_vector(0, 2048, 0, &mut [0; 2]),
+    ),
+    (
+        "1 x 1, chroma stride 8,193",
+        "takes it",
+        4,
+        || reference(1, 1, 1, 8193),
+        || predicted_here(8193),
+    ),
+    ("one sample, 8 x 8, rounding type 2", "writes 64", 31, || rounded(2), || rounded_here(2)),
 ];

@@ -1,19 +1,21 @@
 //! Luma prediction by mode: `predict_luma_block`, `predict_luma_macroblock` and
 //! `predict_luma_macroblock_4mv`. The Rust has them in no file at hand, so they are held to the rule
-//! written out here over its two interpolations: one block by the mode's, a macroblock as one block
-//! of 16 x 16, and by four vectors as four of 8 x 8, each by itself.
+//! over its two interpolations: one block by the mode's, a macroblock as `pvop_mv` has it.
 
 use crate::ask::{Block, Reference};
+use crate::bvop_prediction::BVopSampleMode;
 use crate::counted::{held as marks, strings, Counted, Mark};
 use crate::damage::{self, Store};
 use crate::guard::{held, Lent};
 use crate::options::Options;
+use crate::pvop_mv::{predict_luma_macroblock, PvopMbMotion};
 use crate::random::Random;
 use crate::sample::call::{Call as Interpolation, Function as Interpolator};
 use crate::sample::plane::{self, Plane, SHAPES};
 use crate::sample::{damage as spoil, refusal, valid};
 use crate::summary::Row;
 use crate::tally::Tally;
+use crate::turns;
 use hencouch::raw;
 
 const PLANES: &str = "planes";
@@ -40,8 +42,8 @@ impl Function {
 
     fn numbers(self) -> &'static [u8] {
         match self {
-            Function::Block => &[2, 3, 4, 5, 8, 12, 14],
-            _ => &[2, 3, 4, 5, 8, 12],
+            Function::Block => &[2, 3, 4, 5, 8, 12, 14, 31],
+            _ => &[2, 3, 4, 5, 8, 12, 31],
         }
     }
 }
@@ -57,32 +59,32 @@ struct Call<'a> {
 }
 
 impl<'a> Call<'a> {
-    /// The interpolations that it is made of, each with where its block begins in the answer.
-    fn parts(&self) -> Vec<(usize, Interpolation<'a>)> {
+    /// The interpolations that it is made of.
+    fn parts(&self) -> Vec<Interpolation<'a>> {
         if self.function != Function::Four {
-            return vec![(0, self.whole)];
+            return vec![self.whole];
         }
         let part = |b: usize| {
             let mut part = self.whole;
-            let (right, down) = (8 * (b % 2), 8 * (b / 2));
+            let (right, down) = (8 * (b as i32 % 2), 8 * (b as i32 / 2));
             let Block { origin_x, origin_y, .. } = self.whole.block;
-            part.block.origin_x = origin_x.saturating_add(right as i32);
-            part.block.origin_y = origin_y.saturating_add(down as i32);
+            part.block.origin_x = origin_x.saturating_add(right);
+            part.block.origin_y = origin_y.saturating_add(down);
             (part.block.mv_x, part.block.mv_y) = (self.vectors[2 * b], self.vectors[2 * b + 1]);
             (part.block.block_w, part.block.block_h) = (8, 8);
-            (16 * down + right, part)
+            part
         };
         (0..4).map(part).collect()
     }
 
     /// All reasons to turn the call back, in order. The lengths and sides are those of the whole.
     fn reasons(&self) -> Vec<u8> {
-        let of_parts = self.parts();
-        let far = of_parts.iter().any(|part| refusal::reasons(&part.1).contains(&8));
+        let far = self.parts().iter().any(|part| refusal::reasons(part).contains(&8));
         let mut all = refusal::reasons(&self.whole);
         all.retain(|&number| number != 8 && (number != 3 || self.mode == 1));
         all.extend(far.then_some(8));
         all.extend((self.mode > 1).then_some(2));
+        all.extend((self.whole.block.rounding > 1).then_some(31));
         all.sort();
         all
     }
@@ -118,15 +120,16 @@ impl<'a> Call<'a> {
 
     /// For a call with nothing wrong.
     fn wanted(&self) -> Vec<u8> {
-        let across = self.whole.block.block_w;
-        let mut block = vec![0; self.whole.out_len];
-        for (from, part) in self.parts() {
-            let width = part.block.block_w;
-            for (j, row) in part.ask_original().chunks(width).enumerate() {
-                block[from + across * j..][..width].copy_from_slice(row);
-            }
-        }
-        block
+        let Block { mv_x, mv_y, origin_x, origin_y, rounding, .. } = self.whole.block;
+        let motion = match self.function {
+            Function::Block => return self.whole.ask_original(),
+            Function::One => PvopMbMotion::one(mv_x, mv_y),
+            Function::Four => PvopMbMotion::four(&self.vectors),
+        };
+        let mode = BVopSampleMode::of(self.mode, self.whole.bits_per_pixel);
+        let vop = self.whole.vop();
+        let luma = predict_luma_macroblock(motion, &vop, origin_x, origin_y, rounding, mode);
+        luma.expect("vectors always give a prediction").to_vec()
     }
 
     fn check(&self, reply: u8, salt: u8) -> Result<Vec<u8>, String> {
@@ -166,7 +169,7 @@ pub fn compare(options: &Options) -> Vec<Row> {
 
 fn valid_calls(function: Function, options: &Options, row: &mut Row, random: &mut Random) {
     let mut counted = Counted::new(function.name(), all_marks(function));
-    plane::calls(options.valid, row, random, |plane, row, random| {
+    turns::calls(options.valid, plane::CALLS, row, random, |plane, row, random| {
         let call = valid_call(function, plane, random);
         if let Some(wanted) = row.valid(call.check(0, random.byte())) {
             counted.count(marks_of(&call, plane.shape, &wanted));
@@ -200,9 +203,10 @@ fn valid_call<'a>(function: Function, plane: &'a Plane, random: &mut Random) -> 
 }
 
 /// Of a macroblock the sides, and of four vectors an origin whose blocks to the right and below are
-/// within the limits too. In half mode any number of bits will do.
+/// within the limits too. A rounding type is 0 or 1; in half mode any number of bits will do.
 fn macroblock<'a>(mut call: Call<'a>, random: &mut Random) -> Call<'a> {
     let whole = &mut call.whole;
+    whole.block.rounding &= 1;
     if call.function != Function::Block {
         (whole.block.block_w, whole.block.block_h, whole.out_len) = (16, 16, 256);
     }
@@ -230,6 +234,7 @@ fn damaged<'a>(function: Function, store: &'a [u8], random: &mut Random) -> Call
         match number {
             2 => call.mode = damage::mode(random),
             8 if function == Function::Four => four_places(&mut call, random),
+            31 => call.whole.block.rounding = damage::rounding(random),
             _ => spoil::spoil(&mut call.whole, number, random),
         }
     }
@@ -276,7 +281,7 @@ fn all_marks(function: Function) -> Vec<(&'static str, Vec<String>)> {
 
 fn marks_of(call: &Call, shape: usize, wanted: &[u8]) -> Vec<Mark> {
     let mut all = vec![(PLANES, SHAPES[shape].to_string()), (MODES, settings(call))];
-    for (_, part) in call.parts() {
+    for part in call.parts() {
         let (x, y) = part.fractions();
         all.push((FRACTIONS, format!("{x},{y} of {}", part.function.units())));
     }

@@ -1,6 +1,7 @@
 //! One macroblock: the source's blocks, `intra_activity`, `macroblock_residual`, `quantise_inter_block`,
-//! `quantise_inter_residual`, `inter_cbp`, and `code_macroblock`, which searches and codes. Every
-//! answer of the last is also held to demand 3's sentences, by a reader written for it.
+//! `quantise_inter_residual`, `inter_cbp`, and `code_macroblock` and `code_predicted_macroblock`, which
+//! search and code. Every answer of the two is also held to demand 3's sentences, by a reader written
+//! for it.
 
 mod activity;
 mod demand;

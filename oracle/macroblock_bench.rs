@@ -8,8 +8,9 @@
 //! source block for the search and its prediction are laid out, once, before the timing.
 
 pub mod parts;
+pub mod predicted;
 
-use crate::ask::{self, Areas, Coding, Prediction, Quantising, Record};
+use crate::ask::{self, Areas, Coding, Making, Prediction, Quantising, Record};
 use crate::ask::{Reference, Search, Source};
 use crate::pvop_encode::{Coded, Coder, Place};
 use crate::pvop_mv::{predict_luma_macroblock, PvopMbMotion};
@@ -49,7 +50,11 @@ pub fn bench(wanted: &mut Wanted) {
         let (name, group) = row.names();
         table.row(name, &[(&group, Over::Sums)]);
         let works = works(row, &stills[row.picture as usize], predictions, &weights);
-        works.iter().for_each(assert_same);
+        for work in &works {
+            let mut area = Area::new();
+            let reply = area.code(&work.coding);
+            area.assert_same(reply, work.coder.code());
+        }
         timed.push((works, vec![Times::NONE; MACROBLOCKS]));
     }
     table.run(wanted, PASSES, |at, _| {
@@ -233,11 +238,37 @@ impl Area {
         }
     }
 
-    pub fn code(&mut self, coding: &Coding) -> u8 {
+    fn lent(&mut self) -> (Areas<'_>, Record<'_>) {
         let Area { lasts, runs, levels, vector, sum, four_vectors, four_sums, patterns, counts } =
             self;
         let record = Record { vector, sum, four_vectors, four_sums, patterns, counts };
-        ask::code_macroblock(coding, Areas { lasts, runs, levels }, record)
+        (Areas { lasts, runs, levels }, record)
+    }
+
+    pub fn code(&mut self, coding: &Coding) -> u8 {
+        let (areas, record) = self.lent();
+        ask::code_macroblock(coding, areas, record)
+    }
+
+    fn code_predicted(&mut self, coding: &Coding, making: &Making) -> u8 {
+        let (areas, record) = self.lent();
+        ask::code_predicted_macroblock(coding, making, areas, record)
+    }
+
+    /// Holds both sides to the same answers.
+    fn assert_same(&self, reply: u8, coded: Coded) {
+        let Coded { vector, sum, four, events, patterns } = coded;
+        let (vectors, total) = match four {
+            None => (vec![0; 8], 0),
+            Some((vectors, total)) => (vectors.iter().flat_map(|v| [v.x, v.y]).collect(), total),
+        };
+        let four_sums = self.four_sums.iter().sum::<u32>();
+        let got = (reply, self.vector, self.sum, self.four_vectors, four_sums);
+        let vectors = vectors.try_into().expect("eight parts");
+        let wanted = (0, [vector.x, vector.y], sum, vectors, total);
+        assert_eq!(got, wanted, "the sides differ: see make compare");
+        let same = self.has(&events) && self.patterns == [patterns.0, patterns.1];
+        assert!(same, "the sides differ: see make compare");
     }
 
     /// Whether six blocks' events are these.
@@ -252,20 +283,4 @@ impl Area {
         };
         (0..6).all(block)
     }
-}
-
-/// Holds both sides to the same answers.
-fn assert_same(work: &Work) {
-    let mut area = Area::new();
-    let reply = area.code(&work.coding);
-    let Coded { vector, sum, four, events, patterns } = work.coder.code();
-    let (vectors, total) = match four {
-        None => (vec![0; 8], 0),
-        Some((vectors, total)) => (vectors.iter().flat_map(|v| [v.x, v.y]).collect(), total),
-    };
-    let got = (reply, area.vector, area.sum, area.four_vectors, area.four_sums.iter().sum::<u32>());
-    let wanted = (0, [vector.x, vector.y], sum, vectors.try_into().expect("eight parts"), total);
-    assert_eq!(got, wanted, "the sides differ: see make compare");
-    let same = area.has(&events) && area.patterns == [patterns.0, patterns.1];
-    assert!(same, "the sides differ: see make compare");
 }

@@ -19,9 +19,12 @@ mod ivop_encode;
 mod motion;
 #[allow(dead_code)]
 mod pictures;
+#[allow(dead_code)]
+mod predicted;
 mod predictor;
 #[allow(dead_code, unused_imports)]
 mod pvop_encode;
+#[allow(dead_code)]
 mod pvop_mv;
 #[allow(dead_code)]
 mod quantise;

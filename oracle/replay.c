@@ -170,6 +170,12 @@ static int answered(uint8_t reply)
 #define PLACE SIZE(width); SIZE(height); SIZE(column); SIZE(row)
 #define PLANES READS(uint8_t, y); READS(uint8_t, cb); READS(uint8_t, cr)
 #define PREDICTION READS(uint8_t, pred_y); READS(uint8_t, pred_cb); READS(uint8_t, pred_cr)
+#define REF_PLANES READS(uint8_t, ref_y); READS(uint8_t, ref_cb); READS(uint8_t, ref_cr)
+#define THREE_SEARCHED REF_PLANES; SIZE(ref_width); SIZE(ref_height); SIZE(stride); SIZE(chroma_stride)
+#define THREE_PLANES REF_PLANES; SIZE(width); SIZE(height); SIZE(stride); SIZE(chroma_stride); \
+    U32(mode); U32(bits_per_pixel)
+#define PREDICTED SIZE(column); SIZE(row); U8(rounding); LENDS(uint8_t, y); LENDS(uint8_t, cb); \
+    LENDS(uint8_t, cr)
 #define EVENTS LENDS(uint8_t, lasts); LENDS(uint8_t, runs); LENDS(int32_t, levels)
 #define QUANTISING U32(quantiser); U8(first_method)
 #define SETTINGS U32(fcode); U32(mode); U32(bits_per_pixel); QUANTISING; U32(vectors); U32(scan)
@@ -378,12 +384,19 @@ static uint8_t next_place(void)
     return hencouch_next_place(run, place);
 }
 
-static uint8_t step(void)
+/* The run of a step: as it is before, then as it is after. */
+static uint64_t *changed_run(void)
 {
     uint64_t *run = filled_all(5, sizeof *run, 1);
     size_t after;
     placed(&after);
     declared(after, 5);
+    return run;
+}
+
+static uint8_t step(void)
+{
+    uint64_t *run = changed_run();
     SETTINGS; SEARCHED; PLANES; SIZE(width); SIZE(height); READS(uint8_t, weights); PREDICTION;
     EVENTS; RECORD;
     return hencouch_step(run, fcode, mode, bits_per_pixel, quantiser, first_method, vectors, scan,
@@ -397,6 +410,56 @@ static uint8_t close_run(void)
 {
     READS_ALL(uint64_t, run, 5); LENDS_ALL(uint64_t, totals, 3);
     return hencouch_close(run, totals);
+}
+
+static uint8_t chroma_vector(void)
+{
+    U32(mode); I32(mv_x); I32(mv_y); LENDS_ALL(int32_t, vector, 2);
+    return hencouch_chroma_vector(mode, mv_x, mv_y, vector);
+}
+
+static uint8_t chroma_vector_4mv(void)
+{
+    U32(mode); READS_ALL(int32_t, vectors, 8); LENDS_ALL(int32_t, vector, 2);
+    return hencouch_chroma_vector_4mv(mode, vectors, vector);
+}
+
+static uint8_t predict_macroblock(void)
+{
+    THREE_PLANES; I32(mv_x); I32(mv_y); PREDICTED;
+    return hencouch_predict_macroblock(ref_y, ref_y_len, ref_cb, ref_cb_len, ref_cr, ref_cr_len,
+        width, height, stride, chroma_stride, mode, bits_per_pixel, mv_x, mv_y, column, row,
+        rounding, y, y_len, cb, cb_len, cr, cr_len);
+}
+
+static uint8_t predict_macroblock_4mv(void)
+{
+    THREE_PLANES; READS_ALL(int32_t, vectors, 8); PREDICTED;
+    return hencouch_predict_macroblock_4mv(ref_y, ref_y_len, ref_cb, ref_cb_len, ref_cr, ref_cr_len,
+        width, height, stride, chroma_stride, mode, bits_per_pixel, vectors, column, row, rounding,
+        y, y_len, cb, cb_len, cr, cr_len);
+}
+
+static uint8_t code_predicted_macroblock(void)
+{
+    SETTINGS; U8(rounding); THREE_SEARCHED; PLANES; PLACE; READS(uint8_t, weights); EVENTS; RECORD;
+    return hencouch_code_predicted_macroblock(fcode, mode, bits_per_pixel, quantiser, first_method,
+        vectors, scan, rounding, ref_y, ref_y_len, ref_cb, ref_cb_len, ref_cr, ref_cr_len,
+        ref_width, ref_height, stride, chroma_stride, y, y_len, cb, cb_len, cr, cr_len, width,
+        height, column, row, weights, weights_len, lasts, lasts_len, runs, runs_len, levels,
+        levels_len, vector, sum, four_vectors, four_sums, patterns, counts);
+}
+
+static uint8_t step_predicted(void)
+{
+    uint64_t *run = changed_run();
+    SETTINGS; U8(rounding); THREE_SEARCHED; PLANES; SIZE(width); SIZE(height);
+    READS(uint8_t, weights); EVENTS; RECORD;
+    return hencouch_step_predicted(run, fcode, mode, bits_per_pixel, quantiser, first_method,
+        vectors, scan, rounding, ref_y, ref_y_len, ref_cb, ref_cb_len, ref_cr, ref_cr_len,
+        ref_width, ref_height, stride, chroma_stride, y, y_len, cb, cb_len, cr, cr_len, width,
+        height, weights, weights_len, lasts, lasts_len, runs, runs_len, levels, levels_len, vector,
+        sum, four_vectors, four_sums, patterns, counts);
 }
 
 struct entry {
@@ -438,6 +501,12 @@ static struct entry entries[] = {
     {"next_place", next_place, 0, 0, 0},
     {"step", step, 0, 0, 0},
     {"close", close_run, 0, 0, 0},
+    {"chroma_vector", chroma_vector, 0, 0, 0},
+    {"chroma_vector_4mv", chroma_vector_4mv, 0, 0, 0},
+    {"predict_macroblock", predict_macroblock, 0, 0, 0},
+    {"predict_macroblock_4mv", predict_macroblock_4mv, 0, 0, 0},
+    {"code_predicted_macroblock", code_predicted_macroblock, 0, 0, 0},
+    {"step_predicted", step_predicted, 0, 0, 0},
 };
 
 enum { ENTRIES = sizeof entries / sizeof entries[0] };

@@ -15,6 +15,7 @@ use crate::options::Options;
 use crate::random::Random;
 use crate::summary::Row;
 use crate::tally::Tally;
+use crate::turns;
 use call::Function;
 use check::check;
 
@@ -38,7 +39,7 @@ fn generator(options: &Options, function: Function, part: u64) -> Random {
 fn valid_calls(function: Function, options: &Options, row: &mut Row) {
     let mut random = generator(options, function, 0);
     let mut coverage = coverage::Valid::default();
-    plane::calls(options.valid, row, &mut random, |plane, row, random| {
+    turns::calls(options.valid, plane::CALLS, row, &mut random, |plane, row, random| {
         let call = valid::call(function, plane, random);
         row.valid(check(&call, 0, random.byte()));
         coverage.count(&call, plane);

@@ -20,6 +20,7 @@ use crate::options::Options;
 use crate::random::Random;
 use crate::summary::Row;
 use crate::tally::Tally;
+use crate::turns;
 use call::Function;
 use check::check;
 use coverage::Coverage;
@@ -51,20 +52,15 @@ fn generator(options: &Options, function: Function, part: u64) -> Random {
 fn valid_calls(function: Function, options: &Options, row: &mut Row) {
     let mut random = generator(options, function, 0);
     let mut coverage = Coverage::new(function);
-    let calls = options.valid / SHARE;
-    for turn in 0..calls.div_ceil(CALLS_PER_SCENE) {
-        let scene = Scene::random(turn, &mut random);
-        let left = calls - turn * CALLS_PER_SCENE;
-        for _ in 0..left.min(CALLS_PER_SCENE) {
-            let call = valid::call(function, &scene, &mut random);
-            let found = check(&call, 0, random.byte())
-                .map_err(|text| format!("picture {:?}, {}\n{text}", scene.kind, scene.shape));
-            if let Some(answer) = row.valid(found) {
-                row.covered(coverage.count(&call, &scene, &answer));
-            }
+    let count = options.valid / SHARE;
+    turns::calls(count, CALLS_PER_SCENE, row, &mut random, |scene: &Scene, row, random| {
+        let call = valid::call(function, scene, random);
+        let found = check(&call, 0, random.byte())
+            .map_err(|text| format!("picture {:?}, {}\n{text}", scene.kind, scene.shape));
+        if let Some(answer) = row.valid(found) {
+            row.covered(coverage.count(&call, scene, &answer));
         }
-        row.unchanged(scene.unchanged());
-    }
+    });
     row.covered(coverage.finish());
 }
 

@@ -104,6 +104,32 @@ static void step(void) {
         numbers, 384, vector, sum, vectors, sums, patterns, counts);
 }
 
+static void predict(void) {
+    reply = hencouch_predict_macroblock(reference, sizeof reference, cb, sizeof cb, cr, sizeof cr,
+        WIDTH, HEIGHT, WIDTH, WIDTH / 2, mode, 8, vectors[0], vectors[1], column, row, 1, pred_y, 256,
+        pred_cb, 64, pred_cr, 64);
+}
+
+static void predict_4mv(void) {
+    reply = hencouch_predict_macroblock_4mv(reference, sizeof reference, cb, sizeof cb, cr, sizeof cr,
+        WIDTH, HEIGHT, WIDTH, WIDTH / 2, mode, 8, vectors, column, row, 1, pred_y, 256, pred_cb, 64,
+        pred_cr, 64);
+}
+
+static void code_predicted(void) {
+    reply = hencouch_code_predicted_macroblock(fcode, mode, 8, 1, (uint8_t)first_method, four, scan, 1,
+        reference, sizeof reference, cb, sizeof cb, cr, sizeof cr, WIDTH, HEIGHT, WIDTH, WIDTH / 2, y,
+        sizeof y, cb, sizeof cb, cr, sizeof cr, WIDTH, HEIGHT, column, row, weights, 64, bytes, 384,
+        more_bytes, 384, numbers, 384, vector, sum, vectors, sums, patterns, counts);
+}
+
+static void step_predicted(void) {
+    reply = hencouch_step_predicted(run, fcode, mode, 8, 1, (uint8_t)first_method, four, scan, 1,
+        reference, sizeof reference, cb, sizeof cb, cr, sizeof cr, WIDTH, HEIGHT, WIDTH, WIDTH / 2, y,
+        sizeof y, cb, sizeof cb, cr, sizeof cr, WIDTH, HEIGHT, weights, 64, bytes, 384, more_bytes, 384,
+        numbers, 384, vector, sum, vectors, sums, patterns, counts);
+}
+
 static void next_place(void) { reply = hencouch_next_place(run, places); }
 
 static const struct {
@@ -115,7 +141,9 @@ static const struct {
     {"forward_dct_8x8", transform}, {"intra_activity", activity}, {"macroblock_residual", residual},
     {"quantise_inter_residual", events}, {"estimate_motion", search},
     {"estimate_motion_4mv", search_4mv}, {"code_macroblock", code}, {"step", step},
-    {"next_place", next_place},
+    {"next_place", next_place}, {"predict_macroblock", predict},
+    {"predict_macroblock_4mv", predict_4mv}, {"code_predicted_macroblock", code_predicted},
+    {"step_predicted", step_predicted},
 };
 
 /* A number below n, the same in every run. */

@@ -22,11 +22,12 @@ mod stored {
     pub mod samples;
     pub mod searches;
     pub mod spoil;
+    pub mod three_planes;
 }
 
 use stored::call::Call;
 use stored::header::{self, Entry};
-use stored::{levels, luma, macroblocks, refused, runs, samples, searches};
+use stored::{levels, luma, macroblocks, refused, runs, samples, searches, three_planes};
 
 /// The calls of one entry, with their bytes.
 struct Written {
@@ -107,6 +108,12 @@ fn valid(name: &str) -> Vec<Call> {
         "next_place" => runs::places(),
         "step" => runs::stepped(),
         "close" => runs::closed(),
+        "chroma_vector" => three_planes::chroma_of_one(),
+        "chroma_vector_4mv" => three_planes::chroma_of_four(),
+        "predict_macroblock" => three_planes::one_vector(),
+        "predict_macroblock_4mv" => three_planes::four_vectors(),
+        "code_predicted_macroblock" => macroblocks::coded_predicted(),
+        "step_predicted" => runs::stepped_predicted(),
         _ => panic!("no calls for {name}"),
     }
 }

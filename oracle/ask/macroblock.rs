@@ -1,7 +1,7 @@
-//! The arguments of the entries for one macroblock, and of a run's step.
+//! The arguments of the entries for one macroblock, and of a run's steps.
 
 use super::{Search, Source};
-use hencouch::{raw, Areas, Prediction};
+use hencouch::{raw, Areas, Prediction, Reference, ReferencePlanes};
 
 /// A macroblock of a source picture, whose chroma sides are half the luma's, rounded up.
 #[derive(Clone, Copy)]
@@ -23,7 +23,8 @@ pub struct Quantising<'a> {
     pub scan: u32,
 }
 
-/// All that the entry which searches and codes is told; its luma stands in `search`.
+/// All that the entries which search and code are told; luma stands in `search`. Those that make the
+/// prediction are not handed `prediction`.
 #[derive(Clone, Copy)]
 pub struct Coding<'a> {
     pub search: Search<'a>,
@@ -40,6 +41,24 @@ impl<'a> Coding<'a> {
         let Coding { search, cb, cr, prediction, .. } = *self;
         let Search { source, column, row, .. } = search;
         Macroblock { source, cb, cr, column, row, prediction }
+    }
+}
+
+/// What the entries that make the prediction are told beside a coding: the reference's chroma planes
+/// and the rounding type.
+#[derive(Clone, Copy)]
+pub struct Making<'a> {
+    pub cb: &'a [u8],
+    pub cr: &'a [u8],
+    pub chroma_stride: usize,
+    pub rounding: u8,
+}
+
+impl<'a> Making<'a> {
+    /// The planes beside luma.
+    pub fn reference(&self, luma: Reference<'a>) -> ReferencePlanes<'a> {
+        let Making { cb, cr, chroma_stride, .. } = *self;
+        ReferencePlanes { luma, cb, cr, chroma_stride }
     }
 }
 
@@ -175,6 +194,85 @@ pub fn step(run: &mut Run, c: &Coding, out: Areas, record: Record) -> u8 {
         c.prediction.y,
         c.prediction.cb,
         c.prediction.cr,
+        out.lasts,
+        out.runs,
+        out.levels,
+        record.vector,
+        record.sum,
+        record.four_vectors,
+        record.four_sums,
+        record.patterns,
+        record.counts,
+    )
+}
+
+/// Searches for a macroblock, predicts it and codes it.
+pub fn code_predicted_macroblock(c: &Coding, m: &Making, out: Areas, record: Record) -> u8 {
+    let Search { source, column, row, reference, mode, bits_per_pixel, fcode } = c.search;
+    let Quantising { quantiser, first_method, weights, scan } = c.quantising;
+    raw::code_predicted_macroblock(
+        fcode,
+        mode,
+        bits_per_pixel,
+        quantiser,
+        first_method,
+        c.vectors,
+        scan,
+        m.rounding,
+        reference.samples,
+        m.cb,
+        m.cr,
+        reference.width,
+        reference.height,
+        reference.stride,
+        m.chroma_stride,
+        source.samples,
+        c.cb,
+        c.cr,
+        source.width,
+        source.height,
+        column,
+        row,
+        weights,
+        out.lasts,
+        out.runs,
+        out.levels,
+        record.vector,
+        record.sum,
+        record.four_vectors,
+        record.four_sums,
+        record.patterns,
+        record.counts,
+    )
+}
+
+/// The same for the run's next macroblock: the place is the run's, not `c`'s.
+pub fn step_predicted(run: &mut Run, c: &Coding, m: &Making, out: Areas, record: Record) -> u8 {
+    let Search { source, reference, mode, bits_per_pixel, fcode, .. } = c.search;
+    let Quantising { quantiser, first_method, weights, scan } = c.quantising;
+    raw::step_predicted(
+        run,
+        fcode,
+        mode,
+        bits_per_pixel,
+        quantiser,
+        first_method,
+        c.vectors,
+        scan,
+        m.rounding,
+        reference.samples,
+        m.cb,
+        m.cr,
+        reference.width,
+        reference.height,
+        reference.stride,
+        m.chroma_stride,
+        source.samples,
+        c.cb,
+        c.cr,
+        source.width,
+        source.height,
+        weights,
         out.lasts,
         out.runs,
         out.levels,

@@ -2,11 +2,12 @@
 //! what the reader makes of it; sums on the lists are its sums too. Coefficients are the original
 //! transform's; their levels are worked out here, by the rule. What the reader inverts is
 //! also held to the original's inverse, as a nearer one than the standard's would pass unnoticed.
+//! Where the coder made the prediction, the reader has to reach the same 384 samples.
 
 use super::lists::{At, Bounds, List};
 use super::reader::{Handed, Reader, Samples};
-use super::whole::call::Answer;
-use crate::ask::{Coding, Macroblock, Source};
+use super::whole::call::{Answer, Call, Form};
+use crate::ask::{chroma_planes, Coding, Macroblock, Prediction, Source};
 use crate::fdct::forward_dct_8x8;
 use crate::inverse_quant::{inverse_quant_method2_coef, saturate_fprime};
 
@@ -29,9 +30,15 @@ pub struct Checked {
     /// quantiser 1, for even ones and for the other odd ones.
     farthest: [usize; 3],
     largest: [usize; 3],
+    /// Predictions made by the coder that the reader reached.
+    reached: usize,
 }
 
+/// The rounding type of all sums.
+const SUMS: i32 = 0;
+
 pub struct Demand<'a> {
+    call: &'a Call<'a>,
     coding: &'a Coding<'a>,
     answer: &'a Answer,
     reader: Reader<'a>,
@@ -42,7 +49,8 @@ pub struct Demand<'a> {
 }
 
 impl<'a> Demand<'a> {
-    pub fn new(coding: &'a Coding<'a>, answer: &'a Answer) -> Self {
+    pub fn new(call: &'a Call<'a>, answer: &'a Answer) -> Self {
+        let coding = &call.coding;
         let search = &coding.search;
         let (x, y) = (16 * search.column as i32, 16 * search.row as i32);
         let reader = Reader {
@@ -64,7 +72,7 @@ impl<'a> Demand<'a> {
         let m = coding.macroblock();
         let luma = square(&m.source, 16, 16 * m.column, 16 * m.row);
         let residual = residual(&m, &luma);
-        Demand { coding, answer, reader, bounds, luma, residual }
+        Demand { call, coding, answer, reader, bounds, luma, residual }
     }
 
     pub fn check(&self, checked: &mut Checked) -> Result<(), String> {
@@ -79,18 +87,40 @@ impl<'a> Demand<'a> {
                 return Err(format!("vector {block} of four, not searched for, is not 0"));
             }
         }
+        self.same_prediction(checked)?;
         self.levels(checked)
+    }
+
+    /// A prediction made by the coder is what the reader gets from the record, the reference's planes
+    /// and the rounding type.
+    fn same_prediction(&self, checked: &mut Checked) -> Result<(), String> {
+        let (Some(making), Some(planes)) = (self.call.making, self.call.reference()) else {
+            return Ok(());
+        };
+        let pairs = |parts: &[i32]| parts.chunks(2).map(|v| (v[0], v[1])).collect::<Vec<At>>();
+        let vectors = match self.coding.vectors {
+            4 => pairs(&self.answer.four_vectors),
+            _ => pairs(&self.answer.vector),
+        };
+        let read = self.reader.samples(&vectors, &chroma_planes(&planes), making.rounding.into());
+        let Prediction { y, cb, cr } = self.coding.prediction;
+        let coded = [y, cb, cr].concat();
+        if let Some(k) = (0..384).find(|&k| read[k] != i32::from(coded[k])) {
+            return Err(format!("the reader's sample {k} is {}, not {}", read[k], coded[k]));
+        }
+        checked.reached += 1;
+        Ok(())
     }
 
     fn one(&self, checked: &mut Checked) -> Result<(), String> {
         let [x, y] = self.answer.vector;
         let reader = &self.reader;
-        let sum = |vector: At| difference(&self.luma, &reader.luma_16(vector));
+        let sum = |vector: At| difference(&self.luma, &reader.luma_16(vector, SUMS));
         let whole = |at: At| reader.square(16, reader.x + at.0, reader.y + at.1);
         let full = self.bounds.full(|at| difference(&self.luma, &whole(at)));
         let winner = full.best();
         let units = self.bounds.units;
-        if whole(winner) != reader.luma_16((units * winner.0, units * winner.1)) {
+        if whole(winner) != reader.luma_16((units * winner.0, units * winner.1), SUMS) {
             return Err("the reader's prediction of a whole place is not its samples".to_string());
         }
         self.found(&full, (x, y), self.answer.sum, sum, checked)
@@ -110,7 +140,7 @@ impl<'a> Demand<'a> {
         let seed = (self.answer.vector[0], self.answer.vector[1]);
         let whole = |at: At| difference(&luma, &reader.square(8, x + at.0, y + at.1));
         let full = self.bounds.seeded(seed, whole);
-        let sum = |vector: At| difference(&luma, &reader.luma_8(block, vector));
+        let sum = |vector: At| difference(&luma, &reader.luma_8(block, vector, SUMS));
         self.found(&full, vector, reported, sum, checked)
     }
 
@@ -225,8 +255,8 @@ impl<'a> Demand<'a> {
 impl Checked {
     /// Prints the counts; an error if a long run left a sentence unchecked, or never came as far
     /// from a coefficient as a sentence allows.
-    pub fn finish(&self, name: &str, calls: usize) -> Result<(), String> {
-        let c = self;
+    pub fn finish(&self, form: Form, calls: usize) -> Result<(), String> {
+        let (c, name) = (self, form.name());
         println!(
             "{name}: demand 3 of {calls} answers: sums exact {}, both parts in range {}, first of \
              least on its sub-sample list {} ({} entries), begun at the winner of a full-sample \
@@ -244,7 +274,11 @@ impl Checked {
             c.farthest, c.largest
         );
         let lists = [c.sums, c.ranges, c.sub_lists, c.full_lists, c.levels, c.near, c.dropped];
-        let all = [&lists[..], &c.farthest[..], &c.largest[..]].concat();
+        let mut all = [&lists[..], &c.farthest[..], &c.largest[..]].concat();
+        if form == Form::Made {
+            println!("{name}: the reader reached the 384 samples coded against of {}", c.reached);
+            all.push(c.reached);
+        }
         if calls >= ENOUGH && all.contains(&0) {
             return Err(format!("{name}: a sentence of demand 3 was not checked to its bound"));
         }

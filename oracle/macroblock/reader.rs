@@ -1,8 +1,9 @@
 //! The reader of demand 3, written from the rules and apart from the coder: it uses no function
 //! of the library, and none of the originals. It is handed the coder's answer, and of the call's
 //! arguments the reference, the macroblock's place, the mode with its bits per pixel, the scan and
-//! the quantiser; neither the source nor the prediction coded against. Its rounding type is 0. By
-//! the count of vectors the checker asks it for the blocks of four, or doesn't.
+//! the quantiser; neither the source nor the prediction coded against. For sums its rounding type is
+//! 0. By the count of vectors the checker asks it for the blocks of four, or doesn't. Where the
+//! coder made the prediction, it is also handed the chroma planes and the rounding type.
 
 use crate::ask::Reference;
 
@@ -68,14 +69,61 @@ pub struct Handed<'a> {
 
 impl Reader<'_> {
     /// The 16 x 16 luma block that a vector predicts.
-    pub fn luma_16(&self, vector: (i32, i32)) -> Samples {
-        self.predict(16, self.x, self.y, vector)
+    pub fn luma_16(&self, vector: (i32, i32), rounding: i32) -> Samples {
+        self.predict(16, (self.x, self.y), vector, rounding)
     }
 
     /// One of the four 8 x 8 luma blocks, 0 and 1 above 2 and 3.
-    pub fn luma_8(&self, block: usize, vector: (i32, i32)) -> Samples {
-        let (x, y) = self.corner(block);
-        self.predict(8, x, y, vector)
+    pub fn luma_8(&self, block: usize, vector: (i32, i32), rounding: i32) -> Samples {
+        self.predict(8, self.corner(block), vector, rounding)
+    }
+
+    /// The 384 samples that a record's one vector or its four predict: luma, Cb, Cr.
+    pub fn samples(
+        &self,
+        vectors: &[(i32, i32)],
+        chroma: &[Reference; 2],
+        rounding: i32,
+    ) -> Samples {
+        let mut all = match vectors {
+            [one] => self.luma_16(*one, rounding),
+            _ => {
+                let blocks: Vec<Samples> =
+                    (0..4).map(|b| self.luma_8(b, vectors[b], rounding)).collect();
+                let at = |k: usize| (k / 128 * 2 + k % 16 / 8, k / 16 % 8 * 8 + k % 8);
+                (0..256).map(at).map(|(block, place)| blocks[block][place]).collect()
+            }
+        };
+        let right = self.chroma_part(vectors.iter().map(|vector| vector.0));
+        let down = self.chroma_part(vectors.iter().map(|vector| vector.1));
+        for plane in chroma {
+            let (x, y) = (self.x / 2 + (right >> 1), self.y / 2 + (down >> 1));
+            let copied = square(plane, 9, x, y);
+            all.extend(half_block(&copied, 8, right & 1 == 1, down & 1 == 1, rounding));
+        }
+        all
+    }
+
+    /// A part of the chroma vector, in half samples, from that of one luma vector or of four.
+    fn chroma_part(&self, parts: impl ExactSizeIterator<Item = i32>) -> i32 {
+        let four = parts.len() == 4;
+        let in_halves = |part: i32| match self.quarter {
+            None => part,
+            Some(_) => part.signum() * (part.abs() >> 1),
+        };
+        let sum: i32 = parts.map(in_halves).sum();
+        if !four {
+            return ((sum >> 2) << 1) + i32::from(sum & 3 > 0);
+        }
+        let (whole, rest) = (sum.abs() >> 4, sum.abs() & 15);
+        let halves = if rest < 3 {
+            0
+        } else if rest < 14 {
+            1
+        } else {
+            2
+        };
+        sum.signum() * (2 * whole + halves)
     }
 
     /// The place of a block's first sample.
@@ -83,29 +131,27 @@ impl Reader<'_> {
         (self.x + 8 * (block as i32 % 2), self.y + 8 * (block as i32 / 2))
     }
 
-    /// A square of the reference from a place on. Both coordinates are clamped into the reference.
+    /// A square of the reference's luma.
     pub fn square(&self, side: i32, x: i32, y: i32) -> Samples {
-        let Reference { samples, width, height, stride } = self.reference;
-        let mut square = Samples::with_capacity((side * side) as usize);
-        for row in y..y + side {
-            let from = row.clamp(0, height as i32 - 1) as usize * stride;
-            let across = x..x + side;
-            square.extend(across.map(|column| {
-                i32::from(samples[from + column.clamp(0, width as i32 - 1) as usize])
-            }));
-        }
-        square
+        square(&self.reference, side, x, y)
     }
 
-    fn predict(&self, side: i32, x: i32, y: i32, (right, down): (i32, i32)) -> Samples {
+    fn predict(
+        &self,
+        side: i32,
+        (x, y): (i32, i32),
+        (right, down): (i32, i32),
+        rounding: i32,
+    ) -> Samples {
         match self.quarter {
             None => {
                 let copied = self.square(side + 1, x + (right >> 1), y + (down >> 1));
-                half_block(&copied, side as usize, right & 1 == 1, down & 1 == 1)
+                half_block(&copied, side as usize, right & 1 == 1, down & 1 == 1, rounding)
             }
             Some(bits) => {
                 let copied = self.square(side + 1, x + (right >> 2), y + (down >> 2));
-                quarter_block(&copied, side as usize, right & 3, down & 3, (1 << bits) - 1)
+                let limits = Limits { most: (1 << bits) - 1, rounding };
+                quarter_block(&copied, side as usize, right & 3, down & 3, &limits)
             }
         }
     }
@@ -160,8 +206,24 @@ impl Reader<'_> {
     }
 }
 
+/// A square of a plane from a place on. Both coordinates are clamped into the plane.
+fn square(plane: &Reference, side: i32, x: i32, y: i32) -> Samples {
+    let Reference { samples, width, height, stride } = *plane;
+    let mut square = Samples::with_capacity((side * side) as usize);
+    for row in y..y + side {
+        let from = row.clamp(0, height as i32 - 1) as usize * stride;
+        let across = x..x + side;
+        square.extend(
+            across.map(|column| {
+                i32::from(samples[from + column.clamp(0, width as i32 - 1) as usize])
+            }),
+        );
+    }
+    square
+}
+
 /// 7.6.2.1, from a block with one more column and row.
-fn half_block(copied: &[i32], side: usize, right: bool, down: bool) -> Samples {
+fn half_block(copied: &[i32], side: usize, right: bool, down: bool, rounding: i32) -> Samples {
     let wide = side + 1;
     let mut block = Samples::with_capacity(side * side);
     for j in 0..side {
@@ -169,27 +231,33 @@ fn half_block(copied: &[i32], side: usize, right: bool, down: bool) -> Samples {
             let at = |across: usize, below: usize| copied[(j + below) * wide + i + across];
             block.push(match (right, down) {
                 (false, false) => at(0, 0),
-                (true, false) => (at(0, 0) + at(1, 0) + 1) / 2,
-                (false, true) => (at(0, 0) + at(0, 1) + 1) / 2,
-                (true, true) => (at(0, 0) + at(1, 0) + at(0, 1) + at(1, 1) + 2) / 4,
+                (true, false) => (at(0, 0) + at(1, 0) + 1 - rounding) / 2,
+                (false, true) => (at(0, 0) + at(0, 1) + 1 - rounding) / 2,
+                (true, true) => (at(0, 0) + at(1, 0) + at(0, 1) + at(1, 1) + 2 - rounding) / 4,
             });
         }
     }
     block
 }
 
+/// What the filter and the averages of 7.6.2.2 are cut to, and the rounding type.
+struct Limits {
+    most: i32,
+    rounding: i32,
+}
+
 /// 7.6.2.2, from a copied block with one more column and row: along the rows first, and of what
 /// that gives down the columns. Outside the copied block its samples are mirrored.
-fn quarter_block(copied: &[i32], side: usize, right: i32, down: i32, most: i32) -> Samples {
+fn quarter_block(copied: &[i32], side: usize, right: i32, down: i32, limits: &Limits) -> Samples {
     let wide = side + 1;
     let mut along = Samples::with_capacity(wide * side);
     for row in copied.chunks(wide) {
-        along.extend((0..side).map(|i| between(right, most, |t| row[mirrored(i, t, wide)])));
+        along.extend((0..side).map(|i| between(right, limits, |t| row[mirrored(i, t, wide)])));
     }
     let mut block = Samples::with_capacity(side * side);
     for j in 0..side {
         let at = |i: usize, t: i32| along[mirrored(j, t, wide) * side + i];
-        block.extend((0..side).map(|i| between(down, most, |t| at(i, t))));
+        block.extend((0..side).map(|i| between(down, limits, |t| at(i, t))));
     }
     block
 }
@@ -208,19 +276,19 @@ fn mirrored(from: usize, t: i32, n: usize) -> usize {
     inside as usize
 }
 
-/// The sample at so many quarters between the one at 0 and the one at 1. A whole place is not cut;
-/// the filter and the averages are cut to 0..`most`.
-fn between(quarters: i32, most: i32, at: impl Fn(i32) -> i32) -> i32 {
-    let average = |one: i32, other: i32| ((one + other + 1) / 2).min(most);
+/// The sample at so many quarters between the one at 0 and the one at 1. A whole place is not cut.
+fn between(quarters: i32, limits: &Limits, at: impl Fn(i32) -> i32) -> i32 {
+    let Limits { most, rounding } = *limits;
+    let average = |one: i32, other: i32| ((one + other + 1 - rounding) / 2).min(most);
     match quarters {
         0 => at(0),
-        1 => average(at(0), filtered(most, &at)),
-        2 => filtered(most, &at),
-        _ => average(filtered(most, &at), at(1)),
+        1 => average(at(0), filtered(limits, &at)),
+        2 => filtered(limits, &at),
+        _ => average(filtered(limits, &at), at(1)),
     }
 }
 
-fn filtered(most: i32, at: &impl Fn(i32) -> i32) -> i32 {
+fn filtered(limits: &Limits, at: &impl Fn(i32) -> i32) -> i32 {
     let sum: i32 = TAPS.iter().zip(-3..).map(|(weight, t)| weight * at(t)).sum();
-    (sum + 128).div_euclid(256).clamp(0, most)
+    (sum + 128 - limits.rounding).div_euclid(256).clamp(0, limits.most)
 }

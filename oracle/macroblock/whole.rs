@@ -1,5 +1,6 @@
-//! `code_macroblock`, against the originals put together. Every answer is then read by the reader
-//! of demand 3 and held to that demand's sentences.
+//! `code_macroblock` and `code_predicted_macroblock`, against the originals put together: the answer
+//! of the second is that of the first to the prediction that the originals make by the vectors found.
+//! Every answer is then read by the reader of demand 3 and held to that demand's sentences.
 
 pub mod call;
 pub mod check;
@@ -7,22 +8,25 @@ pub mod damage;
 mod forms;
 mod marks;
 pub mod refusal;
-mod still;
+pub mod still;
 mod valid;
 
 use super::demand::{Checked, Demand};
 use super::generator;
 use super::planes::Planes;
+use super::predicted::Predicted;
+use crate::ask::{Coding, Making, Prediction};
 use crate::counted::Counted;
-use crate::damage::choose;
+use crate::damage::{choose, planes};
 use crate::options::Options;
+use crate::predicted::{Samples, Told};
+use crate::random::Random;
 use crate::summary::Row;
 use crate::tally::Tally;
-use call::Call;
+use crate::turns;
+use call::{Call, Form};
 use check::check;
 use still::Still;
-
-const NAME: &str = "code_macroblock";
 
 const CALLS_PER_PICTURE: usize = 5;
 
@@ -30,55 +34,99 @@ const CALLS_PER_PICTURE: usize = 5;
 /// are asked for.
 const SHARE: usize = 10;
 
+/// So many damaged calls have to cover everything that is counted of them.
+const ENOUGH: usize = 20_000;
+
 pub fn compare(options: &Options) -> Vec<Row> {
-    let mut row = Row::new(NAME);
-    valid_calls(options, &mut row);
-    damaged_calls(options, &mut row);
-    vec![row]
+    let rows = Form::BOTH.map(|form| {
+        let mut row = Row::new(form.name());
+        valid_calls(form, options, &mut row);
+        damaged_calls(form, options, &mut row);
+        row
+    });
+    rows.into()
 }
 
-fn valid_calls(options: &Options, row: &mut Row) {
-    let mut random = generator(options, 5);
-    let mut counted = Counted::new(NAME, marks::all());
+/// What a macroblock is coded against.
+pub enum Against<'a> {
+    Lent(Predicted),
+    /// The originals' prediction, and what it is made of.
+    Made(Told<'a>, Box<Samples>),
+}
+
+impl<'a> Against<'a> {
+    /// For a coding with nothing wrong, whose own prediction is not looked at.
+    pub fn new(coding: &Coding<'a>, making: Option<&Making<'a>>, random: &mut Random) -> Self {
+        let Some(making) = making else {
+            return Against::Lent(Predicted::random(&coding.macroblock(), random));
+        };
+        let told = Told::found(coding, making);
+        Against::Made(told, Box::new(told.predict()))
+    }
+
+    fn form(&self) -> Form {
+        match self {
+            Against::Lent(_) => Form::Lent,
+            Against::Made(..) => Form::Made,
+        }
+    }
+
+    pub fn prediction(&self) -> Prediction<'_> {
+        match self {
+            Against::Lent(predicted) => predicted.lent(),
+            Against::Made(_, samples) => samples.lent(),
+        }
+    }
+}
+
+fn valid_calls(form: Form, options: &Options, row: &mut Row) {
+    let mut random = generator(options, 5 + 4 * form as u64);
+    let mut counted = Counted::new(form.name(), marks::all(form));
     let mut checked = Checked::default();
     let calls = options.valid / SHARE;
-    for turn in 0..calls.div_ceil(CALLS_PER_PICTURE) {
-        let still = Still::random(turn, &mut random);
-        for _ in 0..(calls - turn * CALLS_PER_PICTURE).min(CALLS_PER_PICTURE) {
-            let (predicted, weights, coding) = valid::coding(&still, &mut random);
-            let mut coding = coding;
-            coding.prediction = predicted.lent();
-            coding.quantising.weights = &weights;
-            let call = Call { coding, lens: [384; 3] };
-            let found = check(&call, 0, &mut random)
-                .map_err(|text| format!("picture {:?}\n{text}", still.scene.kind));
-            let Some(answer) = row.valid(found) else { continue };
-            row.same(
-                Demand::new(&call.coding, &answer)
-                    .check(&mut checked)
-                    .map_err(|text| format!("MISMATCH: demand 3: {text}\n{call}{answer:?}")),
-            );
-            counted.count(marks::of(&call, &still, predicted.kind, &answer));
-            forms::count(&call, &answer, &mut counted);
-        }
-        row.unchanged(still.unchanged());
-    }
-    row.covered(checked.finish(NAME, calls));
+    turns::calls(calls, CALLS_PER_PICTURE, row, &mut random, |still: &Still, row, random| {
+        let (mut coding, weights) = valid::coding(still, random);
+        let making = (form == Form::Made).then(|| still.making(random));
+        let against = Against::new(&coding, making.as_ref(), random);
+        coding.prediction = against.prediction();
+        coding.quantising.weights = &weights;
+        let call = Call::new(coding, making);
+        let found = check(&call, 0, random)
+            .map_err(|text| format!("picture {:?}\n{text}", still.scene.kind));
+        let Some(answer) = row.valid(found) else { return };
+        row.same(
+            Demand::new(&call, &answer)
+                .check(&mut checked)
+                .map_err(|text| format!("MISMATCH: demand 3: {text}\n{call}{answer:?}")),
+        );
+        counted.count(marks::of(&call, still, &against, &answer));
+        forms::count(&call, &against, &answer, &mut counted);
+    });
+    row.covered(checked.finish(form, calls));
     row.covered(counted.finish());
 }
 
-fn damaged_calls(options: &Options, row: &mut Row) {
-    let mut random = generator(options, 6);
-    let planes = Planes::new(&mut random);
+fn damaged_calls(form: Form, options: &Options, row: &mut Row) {
+    let mut random = generator(options, 6 + 4 * form as u64);
+    let stores = Planes::new(&mut random);
+    let mut counted =
+        Counted::new(form.name(), vec![planes::all()]).naming("damaged calls", ENOUGH);
+    let numbers = refusal::numbers(form);
     // A mode that is neither is not quarter mode, so 2 and 3 exclude each other.
-    let tally = Tally::new(NAME, refusal::NUMBERS).without(1);
+    let tally = Tally::new(form.name(), numbers).without(1);
     tally.run(row, options.refused, || {
-        let numbers = choose(refusal::NUMBERS, &mut random);
+        let numbers = choose(numbers, &mut random);
         let weights = damage::weights(&numbers, &mut random);
-        let call = damage::call(&numbers, &planes, &weights, &mut random);
+        let call = damage::call(form, &numbers, &stores, &weights, &mut random);
         let reasons = refusal::reasons(&call);
         let found = check(&call, reasons[0], &mut random);
+        if let Some(reference) = call.reference() {
+            counted.count(planes::marks(&reference, reasons[0]));
+        }
         (reasons, found)
     });
-    row.unchanged(planes.unchanged());
+    if form == Form::Made {
+        row.covered(counted.finish());
+    }
+    row.unchanged(stores.unchanged());
 }

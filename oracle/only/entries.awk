@@ -27,7 +27,7 @@ name != "" {
     if ($0 ~ /^    (ensures|requires|decreases)/) contract = 1
     if ($0 ~ /^\{/) contract = 0
     line = $0
-    gsub(/(crate|areas)::([a-z_]+::)?/, "", line)
+    gsub(/(crate|areas|predicting)::([a-z_]+::)?/, "", line)
     if (!contract) text[name] = text[name] line "\n"
     if ($0 ~ /^\}/ || $0 ~ /^[^ ].*;$/) name = ""
 }

@@ -37,4 +37,4 @@ done
 echo "hencouch:" $reached >>"$folder/crates.txt"
 
 ENTRIES="$entries" CRATES=$(echo $reached) awk -f oracle/only/entries.awk \
-    oracle/only/areas.txt crates/areas/src/*.rt crates/hencouch/src/*.rt >"$folder/crates/hencouch/src/lib.rt"
+    oracle/only/areas.txt crates/areas/src/*.rt crates/predicting/src/*.rt crates/hencouch/src/*.rt >"$folder/crates/hencouch/src/lib.rt"

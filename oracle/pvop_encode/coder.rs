@@ -1,12 +1,13 @@
-//! The originals put together as the rules say of the entry that searches and codes: the search
-//! for one vector, that for four seeded by it where they are wanted, the residual against the lent
-//! prediction, its events and their pattern. What differs in form is turned over here.
+//! The originals put together as the rules say of the entries that search and code: the search for
+//! one vector, that for four seeded by it where they are wanted, the residual against the lent
+//! prediction or that made here, its events and their pattern. What differs in form is turned over here.
 
 use super::{
     inter_cbp, macroblock_residual, quantise_inter_residual, AcEvent, FrameView,
-    MacroblockResidual, MotionVector, Place, ScanType,
+    MacroblockResidual, MotionVector, Place, PvopMbMotion, ScanType,
 };
 use crate::ask::{Coding, Macroblock, Prediction, Quantising, Source};
+use crate::predicted::Planes;
 use crate::reconstruct::InterPredictionMacroblock;
 
 /// The six blocks of a macroblock, four of luma and two of chroma, each by rows.
@@ -95,9 +96,27 @@ impl<'a> Coder<'a> {
     }
 
     pub fn code(&self) -> Coded {
+        self.code_by(|_| self.residual())
+    }
+
+    /// The same against what the vectors found predict.
+    pub fn code_predicted(&self, planes: &Planes, rounding: u8) -> Coded {
+        self.code_by(|motion| {
+            let place = (self.column, self.row);
+            let samples = planes.predict(self.place.mode, motion, place, rounding);
+            let prediction = prediction_of(&samples.lent());
+            macroblock_residual(&self.frame, self.row, self.column, &prediction)
+        })
+    }
+
+    fn code_by(&self, residual: impl Fn(PvopMbMotion) -> MacroblockResidual) -> Coded {
         let (vector, sum) = self.place.one();
         let four = self.four.then(|| self.place.four(vector));
-        let events = self.events();
+        let motion = match four {
+            Some((vectors, _)) => PvopMbMotion::FourMv(vectors),
+            None => PvopMbMotion::OneMv(vector),
+        };
+        let events = self.events_of(&residual(motion));
         let patterns = inter_cbp(&events);
         Coded { vector, sum, four, events, patterns }
     }

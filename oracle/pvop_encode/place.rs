@@ -30,16 +30,12 @@ impl<'a> Place<'a> {
         let Reference { samples, width, height, stride } = search.reference;
         let reference = ReferenceVop::with_stride(samples, width, height, stride)
             .expect("the original takes every reference within the bounds");
-        let mode = match search.mode {
-            0 => BVopSampleMode::HalfPel,
-            _ => BVopSampleMode::QuarterPel { bits_per_pixel: search.bits_per_pixel },
-        };
         Place {
             samples: source_luma_mb(&luma_view(&search.source), search.row, search.column),
             reference,
             x: 16 * search.column as i32,
             y: 16 * search.row as i32,
-            mode,
+            mode: BVopSampleMode::of(search.mode, search.bits_per_pixel),
             fcode: search.fcode as u8,
         }
     }

@@ -7,14 +7,19 @@ use crate::ask::{Coding, Run};
 use crate::counted::{held as marks, strings, Counted, Mark};
 use crate::damage::choose;
 use crate::macroblock::planes::Planes;
-use crate::macroblock::whole::call::Call;
+use crate::macroblock::whole::call::{Call, Form};
 use crate::macroblock::whole::{damage, refusal};
 use crate::options::Options;
 use crate::random::Random;
 use crate::tally::Tally;
 
-/// The numbers of a step, in the order in which they are looked at.
-const STEP: &[u8] = &[21, 22, 1, 2, 3, 4, 5, 6, 7, 10, 11, 12, 14];
+/// A step's name, and its numbers in the order in which they are looked at.
+fn entry(form: Form) -> (&'static str, &'static [u8]) {
+    match form {
+        Form::Lent => ("step", &[21, 22, 1, 2, 3, 4, 5, 6, 7, 10, 11, 12, 14]),
+        Form::Made => ("step_predicted", &[21, 22, 1, 2, 3, 4, 5, 6, 7, 10, 11, 12, 14, 31]),
+    }
+}
 
 const RUNS: &str = "runs";
 const RUN_NAMES: [&str; 6] =
@@ -34,7 +39,6 @@ pub fn compare(options: &Options, rows: &mut Rows, random: &mut Random) {
         rows.open.called(reply, found);
     }
     rows.close.covered(counted.finish());
-    refused_steps(options, rows, random);
 }
 
 /// A side for `open`: within the bounds and out of them.
@@ -75,21 +79,23 @@ fn marks_of(run: &Run) -> Vec<Mark> {
 }
 
 /// Steps with something wrong with the run or the input, or both.
-fn refused_steps(options: &Options, rows: &mut Rows, random: &mut Random) {
+pub fn refused_steps(form: Form, options: &Options, rows: &mut Rows, random: &mut Random) {
     let planes = Planes::new(random);
+    let (name, all) = entry(form);
     // A mode that is neither is not quarter mode, so 2 and 3 exclude each other.
-    let tally = Tally::new("step", STEP).without(1);
-    tally.run(&mut rows.step, options.refused, || {
-        let numbers = choose(STEP, random);
+    let tally = Tally::new(name, all).without(1);
+    tally.run(rows.step(form), options.refused, || {
+        let numbers = choose(all, random);
         let weights = damage::weights(&numbers, random);
-        let input: Vec<u8> = numbers.iter().copied().filter(|&number| number < 21).collect();
-        let call = damage::call(&input, &planes, &weights, random);
+        let of_run = |number: &u8| [21, 22].contains(number);
+        let input: Vec<u8> = numbers.iter().copied().filter(|number| !of_run(number)).collect();
+        let call = damage::call(form, &input, &planes, &weights, random);
         let run = run_of(&numbers, &call.coding, random);
         let reasons = reasons(&run, &call);
         let found = stepped(&run, &call, reasons[0], random).map(|_| ());
         (reasons, found)
     });
-    rows.step.unchanged(planes.unchanged());
+    rows.step(form).unchanged(planes.unchanged());
 }
 
 /// A run of the call's sides at one of its macroblocks; for 22 of other sides, for 21 at its end.

@@ -47,7 +47,7 @@ pub struct Call<'a> {
     pub out_len: usize,
 }
 
-impl Call<'_> {
+impl<'a> Call<'a> {
     pub fn ask_library(&self, out: &mut [u8]) -> u8 {
         match self.function {
             Function::Half => ask::interpolate_block_into(&self.reference, &self.block, out),
@@ -60,11 +60,16 @@ impl Call<'_> {
         }
     }
 
+    /// The reference as the original takes it, for a call with nothing wrong.
+    pub fn vop(&self) -> ReferenceVop<'a> {
+        let Reference { samples, width, height, stride } = self.reference;
+        ReferenceVop::with_stride(samples, width, height, stride)
+            .expect("the original takes every reference within the bounds")
+    }
+
     /// The original's answer, for a call with nothing wrong: outside the bounds it may panic.
     pub fn ask_original(&self) -> Vec<u8> {
-        let Reference { samples, width, height, stride } = self.reference;
-        let vop = ReferenceVop::with_stride(samples, width, height, stride)
-            .expect("the original takes every reference within the bounds");
+        let vop = self.vop();
         let Block { mv_x, mv_y, origin_x, origin_y, block_w, block_h, rounding } = self.block;
         match self.function {
             Function::Half => half_sample::interpolate_block(

@@ -2,7 +2,7 @@
 
 use crate::ask::Reference;
 use crate::random::Random;
-use crate::summary::Row;
+use crate::turns::Lendable;
 
 pub const SHAPES: [&str; 8] =
     ["1x1", "1xN", "Nx1", "narrow", "176x144", "wide stride", "longer", "large"];
@@ -13,6 +13,9 @@ const TURNS: [usize; 14] = [0, 4, 5, 6, 7, 1, 3, 4, 5, 6, 7, 2, 3, 4];
 /// Bytes around the lent samples. They are as random as the samples, so that a read past either
 /// end gives a wrong block.
 const MARGIN: usize = 64;
+
+/// So many valid calls are made on each plane.
+pub const CALLS: usize = 250;
 
 pub struct Plane {
     pub shape: usize,
@@ -26,11 +29,26 @@ pub struct Plane {
     before: Vec<u8>,
 }
 
-impl Plane {
-    /// The plane for the given turn of a run.
-    pub fn random(turn: usize, random: &mut Random) -> Plane {
+impl Lendable for Plane {
+    fn random(turn: usize, random: &mut Random) -> Plane {
         let shape = TURNS[turn % TURNS.len()];
         let (width, height, stride) = geometry(SHAPES[shape], random);
+        Plane::new(shape, (width, height), stride, random)
+    }
+
+    fn unchanged(&self) -> bool {
+        self.store == self.before
+    }
+}
+
+impl Plane {
+    /// A plane of these sides, with as many samples more as its shape has.
+    pub fn new(
+        shape: usize,
+        (width, height): (usize, usize),
+        stride: usize,
+        random: &mut Random,
+    ) -> Plane {
         let surplus = match SHAPES[shape] {
             "longer" => random.size(1, 500),
             _ => random.pick(&[0, 0, 1]),
@@ -45,30 +63,6 @@ impl Plane {
     pub fn reference(&self) -> Reference<'_> {
         let samples = &self.store[MARGIN..MARGIN + self.len];
         Reference { samples, width: self.width, height: self.height, stride: self.stride }
-    }
-
-    /// The samples are lent for reading: no call may change them.
-    pub fn unchanged(&self) -> bool {
-        self.store == self.before
-    }
-}
-
-const CALLS_PER_PLANE: usize = 250;
-
-/// So many valid calls, some on each of many planes.
-pub fn calls(
-    count: usize,
-    row: &mut Row,
-    random: &mut Random,
-    mut call: impl FnMut(&Plane, &mut Row, &mut Random),
-) {
-    for turn in 0..count.div_ceil(CALLS_PER_PLANE) {
-        let plane = Plane::random(turn, random);
-        let left = count - turn * CALLS_PER_PLANE;
-        for _ in 0..left.min(CALLS_PER_PLANE) {
-            call(&plane, row, random);
-        }
-        row.unchanged(plane.unchanged());
     }
 }
 

@@ -27,7 +27,7 @@ pub fn call<'a>(function: Function, plane: &'a Plane, random: &mut Random) -> Ca
 }
 
 /// Half of the time enough bits for every sample, else any number of bits.
-fn bits_per_pixel(largest: u8, random: &mut Random) -> u32 {
+pub fn bits_per_pixel(largest: u8, random: &mut Random) -> u32 {
     let enough = (8 - largest.leading_zeros()).max(1);
     let least = if random.chance(50) { enough } else { 1 };
     random.int(least as i32, 8) as u32

@@ -4,6 +4,7 @@ use super::contents::{self, Kind, KINDS};
 use super::shape::{Sizes, SHAPES};
 use crate::ask::{Reference, Source};
 use crate::random::Random;
+use crate::turns::Lendable;
 
 /// Bytes around lent samples. They are noise, so that a read past either end shows.
 const MARGIN: usize = 64;
@@ -18,9 +19,9 @@ pub struct Scene {
     reference: Lending,
 }
 
-impl Scene {
-    /// The scene for the given turn of a run. All pairs of kind and shape come up.
-    pub fn random(turn: usize, random: &mut Random) -> Scene {
+impl Lendable for Scene {
+    /// All pairs of kind and shape come up.
+    fn random(turn: usize, random: &mut Random) -> Scene {
         let kind = KINDS[turn % KINDS.len()];
         let shape = match kind {
             // The valley has to lie inside the reference.
@@ -39,6 +40,12 @@ impl Scene {
         Scene { kind, shape, motion: pair.motion, sizes, source, reference }
     }
 
+    fn unchanged(&self) -> bool {
+        self.source.unchanged() && self.reference.unchanged()
+    }
+}
+
+impl Scene {
     pub fn source(&self) -> Source<'_> {
         let (width, height) = self.sizes.source;
         Source { samples: self.source.samples(), width, height }
@@ -47,11 +54,6 @@ impl Scene {
     pub fn reference(&self) -> Reference<'_> {
         let (width, height) = self.sizes.reference;
         Reference { samples: self.reference.samples(), width, height, stride: self.sizes.stride }
-    }
-
-    /// No call may change samples that are lent for reading.
-    pub fn unchanged(&self) -> bool {
-        self.source.unchanged() && self.reference.unchanged()
     }
 }
 

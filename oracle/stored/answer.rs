@@ -1,17 +1,19 @@
 //! The originals' answers to calls with nothing wrong, by the header's names. What the originals
 //! have no function for is written out from the rules: copied blocks, luma prediction in either
-//! mode, `inter_scan`, the run.
+//! mode, the chroma vector of four, `inter_scan`, the run.
 
 use super::call::Call;
-use super::reasons::macroblocks;
-use crate::ask::{Coding, Prediction, Quantising, Reference, Search, Source};
+use super::reasons::{is_step, macroblocks, reference};
+use crate::ask::{Coding, Prediction, Quantising, Reference, ReferencePlanes, Search, Source};
 use crate::bvop_prediction::BVopSampleMode;
 use crate::fdct::forward_dct_8x8;
 use crate::half_sample::{self, ReferenceVop};
 use crate::inverse_quant::{inverse_quant_method2_coef, saturate_fprime};
 use crate::ivop_encode::{self, FrameView};
 use crate::motion::MotionVector;
+use crate::predicted::{self, Planes, Samples};
 use crate::pvop_encode::{self, rows_of, scan_of, Coder, Part, Place};
+use crate::pvop_mv::{predict_luma_macroblock, PvopMbMotion};
 use crate::quantise::{quantise_method1_inter, quantise_method2_inter};
 use crate::quarter_sample;
 use crate::scan;
@@ -24,21 +26,26 @@ pub type Areas = BTreeMap<&'static str, Vec<i128>>;
 pub fn answer(c: &Call) -> Areas {
     match c.entry {
         "interpolate_block_into" | "interpolate_block_qpel_into" | "predict_luma_block" => {
-            one("out", block(c, 0, 0, vector(c), c.size_of("block_w"), c.size_of("block_h")))
+            one("out", block(c))
         }
         "interpolate_pixel" => one("sample", [pixel(c)]),
         "split_half_pel" => split(half_sample::split_half_pel(c.signed("mv")), "half"),
         "split_quarter_pel" => split(quarter_sample::split_quarter_pel(c.signed("mv")), "fraction"),
         "fetch_clamped" => one("sample", [fetched(c, c.number("x"), c.number("y"))]),
         "copy_block" => one("out", copied(c)),
-        "predict_luma_macroblock" => one("out", block(c, 0, 0, vector(c), 16, 16)),
-        "predict_luma_macroblock_4mv" => one("out", four_blocks(c)),
+        "predict_luma_macroblock" | "predict_luma_macroblock_4mv" => one("out", luma_by_motion(c)),
+        "chroma_vector" | "chroma_vector_4mv" => one("vector", chroma_vector(c)),
+        "predict_macroblock" | "predict_macroblock_4mv" => {
+            let names = ["y", "cb", "cr"].into_iter();
+            names.zip(made(c, motion(c))).flat_map(|(name, area)| one(name, area)).collect()
+        }
         "source_luma_block" => one("out", luma(c).concat()),
         "source_chroma_block" => one("out", frame(c, &c.bytes("chroma")).concat()),
         "intra_activity" => one("activity", [pvop_encode::intra_activity(&luma(c))]),
         "estimate_motion" | "estimate_motion_4mv" => search(c),
         "inter_cbp" => patterns(&c.bytes("counts")),
         "macroblock_residual" | "code_macroblock" | "step" => coded(c),
+        "code_predicted_macroblock" | "step_predicted" => coded(c),
         "open" | "next_place" | "close" => of_run(c),
         _ => of_levels(c),
     }
@@ -72,59 +79,74 @@ fn pixel(c: &Call) -> u8 {
     half_sample::interpolate_pixel(a, b, d, e, half_x, half_y, c.byte("rounding"))
 }
 
-fn vector(c: &Call) -> [i32; 2] {
-    [c.signed("mv_x"), c.signed("mv_y")]
-}
-
-/// Half or quarter samples, by the entry or by the call's mode.
+/// Half or quarter samples, by the call's mode or by the entry. A chroma vector's bits do not count.
 fn mode(c: &Call) -> BVopSampleMode {
-    let quarter = if c.has("mode") { c.number("mode") == 1 } else { c.has("bits_per_pixel") };
-    match quarter {
-        true => BVopSampleMode::QuarterPel { bits_per_pixel: c.number("bits_per_pixel") as u32 },
-        false => BVopSampleMode::HalfPel,
-    }
+    let bits = if c.has("bits_per_pixel") { Some(c.number("bits_per_pixel") as u32) } else { None };
+    let number = if c.has("mode") { c.number("mode") as u32 } else { bits.is_some().into() };
+    BVopSampleMode::of(number, bits.unwrap_or(8))
 }
 
-/// A block of luma, so many samples right of the call's origin and below it.
-fn block(c: &Call, right: i32, down: i32, [x, y]: [i32; 2], w: usize, h: usize) -> Vec<u8> {
+/// Calls `told` with the reference.
+fn with_reference<T>(c: &Call, told: impl Fn(&ReferenceVop) -> T) -> T {
     let samples = c.bytes("samples");
     let sides = (c.size_of("width"), c.size_of("height"), c.size_of("stride"));
     let vop = ReferenceVop::with_stride(&samples, sides.0, sides.1, sides.2)
         .expect("the original takes every reference within the bounds");
-    let (left, top) = (c.signed("origin_x") + right, c.signed("origin_y") + down);
-    let rounding = c.byte("rounding");
-    match mode(c) {
+    told(&vop)
+}
+
+fn block(c: &Call) -> Vec<u8> {
+    let (x, y) = (c.signed("mv_x"), c.signed("mv_y"));
+    let (left, top) = (c.signed("origin_x"), c.signed("origin_y"));
+    let (w, h, rounding) = (c.size_of("block_w"), c.size_of("block_h"), c.byte("rounding"));
+    with_reference(c, |vop| match mode(c) {
         BVopSampleMode::HalfPel => {
-            half_sample::interpolate_block(&vop, x, y, left, top, w, h, rounding)
+            half_sample::interpolate_block(vop, x, y, left, top, w, h, rounding)
         }
         BVopSampleMode::QuarterPel { bits_per_pixel: bits } => {
-            quarter_sample::interpolate_block_qpel(&vop, x, y, left, top, w, h, rounding, bits)
+            quarter_sample::interpolate_block_qpel(vop, x, y, left, top, w, h, rounding, bits)
         }
+    })
+}
+
+/// What a call moves a macroblock by: one vector or four.
+fn motion(c: &Call) -> PvopMbMotion {
+    match c.has("mv_x") {
+        true => PvopMbMotion::one(c.signed("mv_x"), c.signed("mv_y")),
+        false => PvopMbMotion::four(&c.words("vectors").try_into().expect("eight parts")),
     }
 }
 
-/// Four 8 x 8 blocks, each by its own vector, set together.
-fn four_blocks(c: &Call) -> Vec<u8> {
-    let vectors = c.words("vectors");
-    let mut out = vec![0; 256];
-    for b in 0..4 {
-        let (right, down) = (b % 2 * 8, b / 2 * 8);
-        let own = [vectors[2 * b], vectors[2 * b + 1]];
-        let part = block(c, right as i32, down as i32, own, 8, 8);
-        for (k, sample) in part.into_iter().enumerate() {
-            out[(down + k / 8) * 16 + right + k % 8] = sample;
-        }
-    }
-    out
+fn luma_by_motion(c: &Call) -> [u8; 256] {
+    let (left, top) = (c.signed("origin_x"), c.signed("origin_y"));
+    let (rounding, mode) = (c.byte("rounding"), mode(c));
+    let told = |vop: &ReferenceVop| {
+        predict_luma_macroblock(motion(c), vop, left, top, rounding, mode)
+    };
+    with_reference(c, told).expect("vectors always give a prediction")
+}
+
+fn chroma_vector(c: &Call) -> [i32; 2] {
+    let MotionVector { x, y } = predicted::chroma_vector(mode(c), motion(c));
+    [x, y]
+}
+
+/// The macroblock's luma, Cb and Cr, predicted from the reference's three planes.
+fn made(c: &Call, motion: PvopMbMotion) -> [Vec<u8>; 3] {
+    let [luma, width, height] = reference(c).expect("a reference");
+    let [y, cb, cr] = [luma, "ref_cb", "ref_cr"].map(|name| c.bytes(name));
+    let (width, height, stride) = (c.size_of(width), c.size_of(height), c.size_of("stride"));
+    let luma = Reference { samples: &y, width, height, stride };
+    let chroma_stride = c.size_of("chroma_stride");
+    let planes = Planes::new(&ReferencePlanes { luma, cb: &cb, cr: &cr, chroma_stride });
+    let Samples { y, cb, cr } = planes.predict(mode(c), motion, place(c), c.byte("rounding"));
+    [y.to_vec(), cb.to_vec(), cr.to_vec()]
 }
 
 /// A place may lie beyond 32 bits here, where the original's cannot; it is as far outside.
 fn fetched(c: &Call, x: i128, y: i128) -> u8 {
-    let samples = c.bytes("samples");
-    let sides = (c.size_of("width"), c.size_of("height"), c.size_of("stride"));
-    let vop = ReferenceVop::with_stride(&samples, sides.0, sides.1, sides.2).expect("a reference");
     let near = |at: i128| at.clamp(i32::MIN.into(), i32::MAX.into()) as i32;
-    vop.fetch_clamped(near(x), near(y))
+    with_reference(c, |vop| vop.fetch_clamped(near(x), near(y)))
 }
 
 fn copied(c: &Call) -> Vec<u8> {
@@ -239,7 +261,7 @@ fn with_search<T>(c: &Call, told: impl Fn(Search) -> T) -> T {
     let (width, height) = (c.size_of("width"), c.size_of("height"));
     let (column, row) = place(c);
     let part = |name| if c.has(name) { c.size_of(name) } else { 1 };
-    let reference = if c.has("ref_width") { c.bytes("reference") } else { vec![0] };
+    let reference = reference(c).map_or(vec![0], |[luma, ..]| c.bytes(luma));
     let number = |name| if c.has(name) { c.number(name) as u32 } else { 1 };
     told(Search {
         source: Source { samples: &samples, width, height },
@@ -290,9 +312,18 @@ fn search(c: &Call) -> Areas {
     })
 }
 
+/// What a macroblock is coded against: lent, or made by the vectors that the original finds.
+fn coded_against(c: &Call) -> [Vec<u8>; 3] {
+    if c.areas.contains_key("pred_y") {
+        return ["pred_y", "pred_cb", "pred_cr"].map(|name| c.bytes(name));
+    }
+    let vectors = c.number("vectors") as u32;
+    made(c, with_search(c, |search| predicted::found(&search, vectors)))
+}
+
 fn coded(c: &Call) -> Areas {
-    let planes = ["cb", "cr", "pred_y", "pred_cb", "pred_cr"].map(|name| c.bytes(name));
-    let [cb, cr, pred_y, pred_cb, pred_cr] = &planes;
+    let [cb, cr] = &["cb", "cr"].map(|name| c.bytes(name));
+    let [pred_y, pred_cb, pred_cr] = &coded_against(c);
     let whole = c.entry != "macroblock_residual";
     let weights = if whole { c.bytes("weights") } else { vec![16; 64] };
     let number = |name| if whole { c.number(name) as u32 } else { 1 };
@@ -330,7 +361,7 @@ fn record(c: &Call, coder: &Coder) -> Areas {
     areas.insert("four_vectors", four_vectors);
     areas.insert("four_sums", four_sums);
     areas.insert("patterns", vec![told.patterns.0.into(), told.patterns.1.into()]);
-    if c.entry == "step" {
+    if is_step(c) {
         let mut run = c.run();
         run[2] = run[2].wrapping_add(1);
         run[3] = run[3].wrapping_add(told.events.iter().map(|all| all.len() as u64).sum());

@@ -79,7 +79,7 @@ fn parameter(entry: &str, text: &str, lengths: &[&str]) -> Parameter {
         (Some(_), true, true) => Kind::Read,
         (Some(_), true, false) => Kind::ReadFixed,
         (Some(_), false, true) => Kind::Lent,
-        (Some(_), false, false) if (entry, plain) == ("step", "run") => Kind::Changed,
+        (Some(_), false, false) if entry.starts_with("step") && plain == "run" => Kind::Changed,
         (Some(n), false, false) => Kind::LentFixed(n),
     };
     Parameter { name: plain.to_string(), size, kind }

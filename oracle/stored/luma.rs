@@ -6,14 +6,15 @@ use super::samples::{origin, part, placed, rounding};
 use crate::random::Random;
 
 /// Bits per pixel count in quarter mode alone: half mode takes any.
-fn by_mode(c: Call, turn: usize, random: &mut Random) -> Call {
+pub fn by_mode(c: Call, turn: usize, random: &mut Random) -> Call {
     let mode = turn % 2;
     let bits = if mode == 1 { turn / 2 % 8 + 1 } else { random.pick(&[0, 8, 9]) };
     let c = c.set("mode", mode as u32).set("bits_per_pixel", bits as u32);
-    c.set("rounding", rounding(turn / 4 % 2, random))
+    // A type above 1 is refused here: of what an interpolation would be handed, the low bit.
+    c.set("rounding", rounding(turn / 4 % 2, random) & 1)
 }
 
-fn vector(turn: usize, random: &mut Random) -> [i32; 2] {
+pub fn vector(turn: usize, random: &mut Random) -> [i32; 2] {
     let units = if turn % 2 == 1 { 4 } else { 2 };
     [0, 1].map(|_| {
         let fraction = random.int(0, units - 1);

@@ -3,7 +3,7 @@
 
 use super::call::Call;
 use super::levels::{residuals as residual, weights};
-use super::planes::{rows, sample, SHOWN};
+use super::planes::{chroma_sides, rows, sample, with_chroma, SHOWN};
 use super::searches::{sized, Scene};
 use crate::random::Random;
 
@@ -14,10 +14,6 @@ const SIDES: [(usize, usize); 9] =
 fn plane((width, height): (usize, usize), turn: usize, random: &mut Random) -> Vec<u8> {
     let (shown, salt) = (SHOWN[turn % SHOWN.len()], random.bits());
     rows((width, height), width, turn % 3 / 2, random, |x, y| sample(shown, salt, x, y))
-}
-
-fn chroma_sides((width, height): (usize, usize)) -> (usize, usize) {
-    (width.div_ceil(2), height.div_ceil(2))
 }
 
 /// The last macroblock, the first, or one between.
@@ -146,22 +142,39 @@ pub fn patterns() -> Vec<Call> {
     (0..64).map(one).collect()
 }
 
-/// A call of the entry that searches and codes, or of a step, which has no place of its own.
+/// A call of an entry that searches and codes, or of a step, which has no place of its own.
 pub fn coding(entry: &'static str, turn: usize, random: &mut Random) -> (Call, (usize, usize)) {
     let scene = Scene::random(turn, random);
     let c = quantising(scene.searched(Call::of(entry), turn, random), turn, random);
     let c = predicted(c, &scene.source, scene.size, turn, random);
     let (width, height) = scene.size;
     let c = c.set("vectors", [4, 1, 4][turn % 3] as u32).size("width", width).size("height", height);
+    let c = if entry.contains("predicted") { made_here(c, turn, random) } else { c };
     (lent_events(c, 384), scene.place(random))
 }
 
-pub fn coded() -> Vec<Call> {
-    let mut random = Random::new(37);
-    let one = |turn: usize| {
-        let (c, (column, row)) = coding("code_macroblock", turn, &mut random);
-        c.size("column", column).size("row", row)
-    };
-    (0..21).map(one).collect()
+/// The same call of an entry that makes its prediction: instead of what is lent it has the reference's
+/// chroma planes and a rounding type.
+fn made_here(mut c: Call, turn: usize, random: &mut Random) -> Call {
+    c.areas.retain(|name, _| !name.starts_with("pred_"));
+    let luma = c.areas.remove("reference").expect("a reference");
+    let sides = (c.number("ref_width") as usize, c.number("ref_height") as usize);
+    with_chroma(c.reads("ref_y", &luma), sides, turn, random).set("rounding", turn as u8 % 2)
 }
 
+pub fn coded() -> Vec<Call> {
+    placed("code_macroblock", 21, Random::new(37))
+}
+
+pub fn coded_predicted() -> Vec<Call> {
+    placed("code_predicted_macroblock", 14, Random::new(38))
+}
+
+/// So many calls at a macroblock's place.
+fn placed(entry: &'static str, count: usize, mut random: Random) -> Vec<Call> {
+    let one = |turn: usize| {
+        let (c, (column, row)) = coding(entry, turn, &mut random);
+        c.size("column", column).size("row", row)
+    };
+    (0..count).map(one).collect()
+}

@@ -48,16 +48,44 @@ pub fn rows(
     samples
 }
 
-/// The call with a reference of the given sides; every third has a stride above its width.
+/// The call with a reference; every third has a stride above its width.
 pub fn with_reference(c: Call, turn: usize, random: &mut Random) -> Call {
+    with_luma(c, "samples", turn, random)
+}
+
+/// The call with a reference of three planes.
+pub fn with_planes(c: Call, turn: usize, random: &mut Random) -> Call {
+    let c = with_luma(c, "ref_y", turn, random);
+    with_chroma(c, SIDES[turn % SIDES.len()], turn, random)
+}
+
+fn with_luma(c: Call, luma: &'static str, turn: usize, random: &mut Random) -> Call {
     let sides = SIDES[turn % SIDES.len()];
     let shown = SHOWN[turn / SIDES.len() % SHOWN.len()];
     let stride = sides.0 + if turn % 3 == 1 { random.size(1, 6) } else { 0 };
     let salt = random.bits();
     let more = if turn % 4 == 3 { 2 } else { 0 };
     let samples = rows(sides, stride, more, random, |x, y| sample(shown, salt, x, y));
-    c.reads("samples", &samples)
+    c.reads(luma, &samples)
         .size("width", sides.0)
         .size("height", sides.1)
         .size("stride", stride)
+}
+
+/// A chroma plane's sides, of luma's.
+pub fn chroma_sides((width, height): (usize, usize)) -> (usize, usize) {
+    (width.div_ceil(2), height.div_ceil(2))
+}
+
+/// The call with the chroma planes of a reference of the given sides; every fourth pair has a stride
+/// above its width.
+pub fn with_chroma(c: Call, sides: (usize, usize), turn: usize, random: &mut Random) -> Call {
+    let sides = chroma_sides(sides);
+    let stride = sides.0 + if turn % 4 == 2 { random.size(1, 3) } else { 0 };
+    let mut plane = |turn: usize| {
+        let (shown, salt) = (SHOWN[turn % SHOWN.len()], random.bits());
+        rows(sides, stride, turn % 5 / 4, random, |x, y| sample(shown, salt, x, y))
+    };
+    let (cb, cr) = (plane(turn), plane(turn + 1));
+    c.reads("ref_cb", &cb).reads("ref_cr", &cr).size("chroma_stride", stride)
 }

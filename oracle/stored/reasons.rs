@@ -5,8 +5,8 @@ use super::call::Call;
 
 pub fn reasons(c: &Call) -> Vec<u8> {
     let all = [
-        (21, c.entry == "step" && !left(c)),
-        (22, c.entry == "step" && other_sizes(c)),
+        (21, is_step(c) && !left(c)),
+        (22, is_step(c) && other_sizes(c)),
         (23, c.entry == "close" && left(c)),
         (1, outside(c, "fcode", 1, 7)),
         (2, outside(c, "mode", 0, 1)),
@@ -22,12 +22,22 @@ pub fn reasons(c: &Call) -> Vec<u8> {
         (12, other_length(c)),
         (13, beyond_range(c)),
         (14, bad_choice(c)),
+        (31, !keeps_low_bit(c) && outside(c, "rounding", 0, 1)),
     ];
     all.iter().filter(|reason| reason.1).map(|reason| reason.0).collect()
 }
 
 fn outside(c: &Call, name: &str, low: i128, high: i128) -> bool {
     c.has(name) && !(low..=high).contains(&c.number(name))
+}
+
+pub fn is_step(c: &Call) -> bool {
+    c.entry.starts_with("step")
+}
+
+/// Of a rounding type the interpolations take the low bit, whatever the others are.
+fn keeps_low_bit(c: &Call) -> bool {
+    c.entry.starts_with("interpolate")
 }
 
 pub fn macroblocks(side: i128) -> i128 {
@@ -50,13 +60,14 @@ fn quarter(c: &Call) -> bool {
     !c.has("mode") || c.number("mode") == 1
 }
 
-/// The names of a reference's samples, width and height.
+/// The names of a reference's luma, width and height.
 pub fn reference(c: &Call) -> Option<[&'static str; 3]> {
-    match (c.has("ref_width"), c.has("stride")) {
-        (true, _) => Some(["reference", "ref_width", "ref_height"]),
-        (_, true) => Some(["samples", "width", "height"]),
-        _ => None,
-    }
+    let read = |name: &&str| c.areas.contains_key(name);
+    let luma = ["reference", "samples", "ref_y"].into_iter().find(read)?;
+    Some(match c.has("ref_width") {
+        true => [luma, "ref_width", "ref_height"],
+        false => [luma, "width", "height"],
+    })
 }
 
 /// Whether `width` and `height` are a source's.
@@ -64,23 +75,46 @@ pub fn of_source(c: &Call) -> bool {
     c.has("width") && (c.has("ref_width") || !c.has("stride"))
 }
 
-fn bad_geometry(c: &Call) -> bool {
-    let Some([_, width, height]) = reference(c) else {
-        return false;
-    };
-    let stride = outside(c, "stride", c.number(width), 8192);
-    outside(c, width, 1, 4096) || outside(c, height, 1, 4096) || stride
+/// A plane of the reference, as the call has it.
+pub struct Plane {
+    pub name: &'static str,
+    width: i128,
+    height: i128,
+    stride: i128,
 }
 
-/// A side of 0 is a bad geometry, which is looked at before, and counts as 1.
-pub fn last_sample(c: &Call) -> Option<i128> {
-    let [_, width, height] = reference(c)?;
-    let less = |name| (c.number(name) - 1).max(0);
-    Some(less(height) * c.number("stride") + less(width))
+impl Plane {
+    fn bad_geometry(&self) -> bool {
+        let side = |n| !(1..=4096).contains(&n);
+        side(self.width) || side(self.height) || !(self.width..=8192).contains(&self.stride)
+    }
+
+    /// A side of 0 is a bad geometry, which is looked at before, and counts as 1.
+    pub fn last_sample(&self) -> i128 {
+        (self.height - 1).max(0) * self.stride + (self.width - 1).max(0)
+    }
+}
+
+/// Luma, and Cb and Cr where the call has them.
+pub fn reference_planes(c: &Call) -> Vec<Plane> {
+    let Some([name, width, height]) = reference(c) else {
+        return Vec::new();
+    };
+    let (width, height) = (c.number(width), c.number(height));
+    let mut all = vec![Plane { name, width, height, stride: c.number("stride") }];
+    if c.has("chroma_stride") {
+        let (width, height, stride) = ((width + 1) / 2, (height + 1) / 2, c.number("chroma_stride"));
+        all.extend(["ref_cb", "ref_cr"].map(|name| Plane { name, width, height, stride }));
+    }
+    all
+}
+
+fn bad_geometry(c: &Call) -> bool {
+    reference_planes(c).iter().any(Plane::bad_geometry)
 }
 
 fn few_samples(c: &Call) -> bool {
-    reference(c).is_some_and(|[samples, ..]| Some(c.area(samples).len() as i128) <= last_sample(c))
+    reference_planes(c).iter().any(|p| c.area(p.name).len() as i128 <= p.last_sample())
 }
 
 /// The source's planes that a call has, each with its least length.
@@ -99,26 +133,38 @@ fn short_plane(c: &Call) -> bool {
 
 fn beyond_source(c: &Call) -> bool {
     let past = |at, side| c.number(at) >= macroblocks(c.number(side));
-    c.has("column") && (past("column", "width") || past("row", "height"))
+    of_source(c) && c.has("column") && (past("column", "width") || past("row", "height"))
 }
 
 /// The vectors of the blocks that are predicted, each with its block's place in the macroblock.
 fn predicted(c: &Call) -> Vec<(i128, i128, [i128; 2])> {
-    match c.areas.get("vectors") {
-        Some(all) => {
-            (0..4).map(|b| (b % 2 * 8, b / 2 * 8, [all[2 * b as usize], all[2 * b as usize + 1]])).collect()
-        }
-        None => vec![(0, 0, [c.number("mv_x"), c.number("mv_y")])],
+    if let Some(all) = c.areas.get("vectors") {
+        let block = |b: usize| (b as i128 % 2 * 8, b as i128 / 2 * 8, [all[2 * b], all[2 * b + 1]]);
+        return (0..4).map(block).collect();
+    }
+    match c.has("mv_x") {
+        true => vec![(0, 0, [c.number("mv_x"), c.number("mv_y")])],
+        false => Vec::new(),
+    }
+}
+
+/// The corner of what is predicted: as the call has it, or that of its macroblock. A chroma vector
+/// has none.
+fn corner(c: &Call) -> [i128; 2] {
+    match (c.has("origin_x"), c.has("column")) {
+        (true, _) => [c.number("origin_x"), c.number("origin_y")],
+        (_, true) => [16 * c.number("column"), 16 * c.number("row")],
+        _ => [0, 0],
     }
 }
 
 fn far_block(c: &Call) -> bool {
-    let origin = |name, add| !(-4096..=4096).contains(&(c.number(name) + add));
-    let far = |v: i128| !(-2048..=2047).contains(&v);
-    c.has("origin_x")
-        && predicted(c).iter().any(|&(right, down, vector)| {
-            origin("origin_x", right) || origin("origin_y", down) || vector.into_iter().any(far)
-        })
+    let [left, top] = corner(c);
+    let far = |at: i128| !(-4096..=4096).contains(&at);
+    let long = |v: i128| !(-2048..=2047).contains(&v);
+    predicted(c).iter().any(|&(right, down, vector)| {
+        far(left + right) || far(top + down) || vector.into_iter().any(long)
+    })
 }
 
 /// For an fcode that is none the range of the nearest counts: 1 comes before.
@@ -145,6 +191,8 @@ pub fn wanted(c: &Call, name: &str) -> Option<i128> {
         ("lasts" | "runs" | "levels" | "out_levels", _) => events,
         ("out" | "residual" | "coefficients" | "weights" | "pred_cb" | "pred_cr", _) => 64,
         ("pred_y", _) => 256,
+        ("y", "predict_macroblock" | "predict_macroblock_4mv") => 256,
+        ("cb" | "cr", "predict_macroblock" | "predict_macroblock_4mv") => 64,
         ("vector", _) => 2,
         ("sum", _) => 1,
         ("vectors", "estimate_motion_4mv") => 8,

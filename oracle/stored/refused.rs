@@ -2,7 +2,7 @@
 //! each two numbers together, so that their order shows.
 
 use super::call::Call;
-use super::reasons::reasons;
+use super::reasons::{is_step, reasons};
 use super::spoil::ways;
 
 /// The numbers of an entry, in the order in which they are looked at.
@@ -12,8 +12,10 @@ pub fn numbers(entry: &str) -> &'static [u8] {
         "interpolate_block_qpel_into" => &[3, 4, 5, 8, 12, 14],
         "fetch_clamped" => &[4, 5],
         "copy_block" => &[4, 5, 12],
-        "predict_luma_block" => &[2, 3, 4, 5, 8, 12, 14],
-        "predict_luma_macroblock" | "predict_luma_macroblock_4mv" => &[2, 3, 4, 5, 8, 12],
+        "predict_luma_block" => &[2, 3, 4, 5, 8, 12, 14, 31],
+        "predict_luma_macroblock" | "predict_luma_macroblock_4mv" => &[2, 3, 4, 5, 8, 12, 31],
+        "chroma_vector" | "chroma_vector_4mv" => &[2, 8],
+        "predict_macroblock" | "predict_macroblock_4mv" => &[2, 3, 4, 5, 8, 12, 31],
         "forward_dct_8x8" | "levels_to_events" => &[12, 13],
         "quantise_block" => &[10, 11, 12, 13],
         "inverse_block" => &[10, 12, 13],
@@ -24,8 +26,10 @@ pub fn numbers(entry: &str) -> &'static [u8] {
         "intra_activity" => &[6, 7, 8],
         "quantise_inter_block" | "quantise_inter_residual" => &[10, 11, 12, 13, 14],
         "code_macroblock" => &[1, 2, 3, 4, 5, 6, 7, 8, 10, 11, 12, 14],
+        "code_predicted_macroblock" => &[1, 2, 3, 4, 5, 6, 7, 8, 10, 11, 12, 14, 31],
         "open" => &[6],
         "step" => &[21, 22, 1, 2, 3, 4, 5, 6, 7, 10, 11, 12, 14],
+        "step_predicted" => &[21, 22, 1, 2, 3, 4, 5, 6, 7, 10, 11, 12, 14, 31],
         "close" => &[23],
         _ => &[],
     }
@@ -33,13 +37,19 @@ pub fn numbers(entry: &str) -> &'static [u8] {
 
 /// A mode that is none is not quarter mode. A step's bad side takes planes of a bad side, since the
 /// run has to have it too: with the run's numbers alone, the others are `code_macroblock`'s.
-fn left_out(entry: &str, first: u8, second: u8) -> bool {
-    (first, second) == (2, 3) || entry == "step" && first < 21 && [first, second].contains(&6)
+fn left_out(sound: &Call, first: u8, second: u8) -> bool {
+    (first, second) == (2, 3) || is_step(sound) && first < 21 && [first, second].contains(&6)
 }
 
 /// Entries whose calls are long, and whose parts are entries of their own: the first way of
 /// a number and the last.
-const LONG: [&str; 3] = ["quantise_inter_residual", "code_macroblock", "step"];
+const LONG: [&str; 5] = [
+    "quantise_inter_residual",
+    "code_macroblock",
+    "step",
+    "code_predicted_macroblock",
+    "step_predicted",
+];
 
 pub fn calls(entry: &str, sound: &Call) -> Vec<Call> {
     let numbers = numbers(entry);
@@ -47,12 +57,23 @@ pub fn calls(entry: &str, sound: &Call) -> Vec<Call> {
     for (i, &first) in numbers.iter().enumerate() {
         all.extend(alone(sound, first));
         for &second in &numbers[i + 1..] {
-            if !left_out(entry, first, second) {
+            if !left_out(sound, first, second) {
                 all.push(together(sound, first, second));
             }
         }
+        if first == 4 && sound.has("chroma_stride") {
+            all.push(chroma_before_luma(sound));
+        }
     }
     all
+}
+
+/// Every 4 comes before any 5: chroma's stride beside luma without a sample.
+fn chroma_before_luma(sound: &Call) -> Call {
+    let no_luma = ways(sound, 5).swap_remove(1);
+    let both = ways(&no_luma, 4).pop().expect("a stride of chroma");
+    assert_eq!(reasons(&both), [4, 5], "{both:?}");
+    both
 }
 
 fn alone(sound: &Call, number: u8) -> Vec<Call> {

@@ -52,9 +52,16 @@ pub fn closed() -> Vec<Call> {
 
 /// Steps anywhere in a picture, with totals so far of every size, also such that wrap.
 pub fn stepped() -> Vec<Call> {
-    let mut random = Random::new(42);
+    steps("step", Random::new(42))
+}
+
+pub fn stepped_predicted() -> Vec<Call> {
+    steps("step_predicted", Random::new(43))
+}
+
+fn steps(entry: &'static str, mut random: Random) -> Vec<Call> {
     let one = |turn: usize| {
-        let (c, (column, row)) = coding("step", turn, &mut random);
+        let (c, (column, row)) = coding(entry, turn, &mut random);
         let (width, height) = (c.number("width") as u64, c.number("height") as u64);
         let next = row as u64 * width.div_ceil(16) + column as u64;
         let (events, sums) = match turn % 3 {

@@ -2,7 +2,8 @@
 //! arguments have, each a changed copy of the call.
 
 use super::call::Call;
-use super::reasons::{last_sample, macroblocks, of_source, planes, reference, wanted, RANGES};
+use super::reasons::{is_step, macroblocks, of_source, planes, reference, reference_planes};
+use super::reasons::{wanted, Plane, RANGES};
 
 /// The changed copies for a number; of those some may give other reasons too.
 pub fn ways(c: &Call, number: u8) -> Vec<Call> {
@@ -29,6 +30,7 @@ pub fn ways(c: &Call, number: u8) -> Vec<Call> {
         12 => lengths(c),
         13 => ranges(c),
         14 => choices(c, each("scan", &[3, 258, MOST]), each("vectors", &[0, 2, 5, 260, MOST])),
+        31 => each("rounding", &[2, 128, 255]),
         _ => runs(c, number),
     }
 }
@@ -50,7 +52,8 @@ fn geometry(c: &Call) -> Vec<Call> {
         return Vec::new();
     };
     let of = |w: i128, h: i128, stride: i128, len: usize| {
-        resized(c, samples, len).set(width, w).set(height, h).set("stride", stride)
+        let c = resized(c, samples, len).set(width, w).set(height, h).set("stride", stride);
+        with_chroma_samples(c)
     };
     let (w, h, stride) = (c.number(width), c.number(height), c.number("stride"));
     let len = c.area(samples).len();
@@ -67,15 +70,31 @@ fn geometry(c: &Call) -> Vec<Call> {
         all.push(of(4097, 1, 4097, 4097));
     }
     all.push(of((1 << 32) + w, h, (1 << 32) + stride, len));
+    if c.has("chroma_stride") {
+        let low = of(w, 1, stride, len);
+        let strides = [(w + 1) / 2 - 1, 8193, 1 << 63, (1 << 32) + w];
+        all.extend(strides.map(|n| low.clone().set("chroma_stride", n)));
+    }
     all
 }
 
+/// Chroma planes that have the samples which a changed height asks for.
+fn with_chroma_samples(mut c: Call) -> Call {
+    for plane in reference_planes(&c).iter().skip(1) {
+        let least = plane.last_sample() + 1;
+        if (c.area(plane.name).len() as i128) < least && least < 1 << 12 {
+            c = resized(&c, plane.name, least as usize);
+        }
+    }
+    c
+}
+
 fn few_samples(c: &Call) -> Vec<Call> {
-    let (Some([samples, ..]), Some(last)) = (reference(c), last_sample(c)) else {
-        return Vec::new();
+    let cut = |plane: &Plane| {
+        let most = plane.last_sample().min(c.area(plane.name).len() as i128) as usize;
+        [resized(c, plane.name, most), resized(c, plane.name, 0)]
     };
-    let most = last.min(c.area(samples).len() as i128) as usize;
-    vec![resized(c, samples, most), resized(c, samples, 0)]
+    reference_planes(c).iter().flat_map(cut).collect()
 }
 
 fn of_sides(c: &Call, width: i128, height: i128) -> Call {
@@ -92,7 +111,7 @@ fn sides(c: &Call) -> Vec<Call> {
     for (name, least) in planes(&long) {
         long = resized(&long, name, least as usize);
     }
-    if c.entry == "step" {
+    if is_step(c) {
         long = long.reads("run", &[4097, 1, 0, 3, 4]);
     }
     let mut all = vec![long, of_sides(c, 0, height), of_sides(c, width, 0), of_sides(c, 1 << 32, 1 << 32)];
@@ -117,9 +136,14 @@ fn short_planes(c: &Call) -> Vec<Call> {
 fn place(c: &Call) -> Vec<Call> {
     let mut all = Vec::new();
     for (name, side) in [("column", "width"), ("row", "height")] {
-        if c.has(name) {
+        if c.has(name) && of_source(c) {
             let first = macroblocks(c.number(side));
             all.extend([first, 1 << 32, u64::MAX as i128].map(|n| c.clone().set(name, n)));
+        } else if c.has(name) {
+            // The first whose corner is too far, and such whose corner would be 0 in 32 or 64 bits.
+            let first = if c.areas.contains_key("vectors") { 256 } else { 257 };
+            let far = [first, 1 << 28, 1 << 60, u64::MAX as i128];
+            all.extend(far.map(|n| c.clone().set(name, n)));
         }
     }
     let ends = [i32::MIN as i128, i32::MAX as i128];

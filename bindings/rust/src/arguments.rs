@@ -32,6 +32,24 @@ pub struct Reference<'a> {
     pub stride: usize,
 }
 
+/// A reference's three planes. Chroma's sides are half of luma's, rounded up; one stride is both's.
+/// Coordinates outside a plane are clamped into it.
+///
+/// Refused: 4 as [`Reference`] says of luma and where `chroma_stride` is not from chroma's width to
+/// 8,192; 5 as [`Reference`] says, of each plane with its own sides and stride. Every 4 comes before
+/// any 5.
+#[derive(Clone, Copy, Debug)]
+pub struct ReferencePlanes<'a> {
+    /// Luma, whose sides fix chroma's.
+    pub luma: Reference<'a>,
+    /// Blue chroma.
+    pub cb: &'a [u8],
+    /// Red chroma.
+    pub cr: &'a [u8],
+    /// From a chroma row's first sample to the next row's.
+    pub chroma_stride: usize,
+}
+
 /// The picture that is coded, its rows following each other directly. Chroma's sides are half of
 /// luma's, rounded up. Blocks past the right or bottom repeat the last column or row.
 ///

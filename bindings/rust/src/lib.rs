@@ -11,11 +11,12 @@
 //! |---|---|
 //! | read a picture | [`fetch_clamped`], [`copy_block`] of a reference; [`source_luma_block`], [`source_chroma_block`] of the picture that is coded |
 //! | predict luma | [`predict_luma_macroblock`], [`predict_luma_macroblock_4mv`], [`predict_luma_block`]; below them [`interpolate_block_into`] and [`interpolate_block_qpel_into`], [`split_half_pel`] and [`split_quarter_pel`], [`interpolate_pixel`] |
+//! | predict a macroblock | [`predict_macroblock`], [`predict_macroblock_4mv`]; below them [`chroma_vector`], [`chroma_vector_4mv`] |
 //! | search | [`estimate_motion`], [`estimate_motion_4mv`] |
 //! | code a block | [`forward_dct_8x8`], [`quantise_block`], [`forward_scan`], [`levels_to_events`]; [`quantise_inter_block`] does all four; [`inter_scan`] chooses the scan |
 //! | undo it | [`inverse_scan`], [`inverse_block`] |
-//! | code a macroblock | [`macroblock_residual`], [`quantise_inter_residual`], [`inter_cbp`], [`intra_activity`]; [`code_macroblock`] searches and codes |
-//! | code a picture | [`Run::open`], [`Run::next_place`], [`Run::step`], [`Run::close`] |
+//! | code a macroblock | [`macroblock_residual`], [`quantise_inter_residual`], [`inter_cbp`], [`intra_activity`]; [`code_macroblock`] searches and codes, [`code_predicted_macroblock`] also predicts |
+//! | code a picture | [`Run::open`], [`Run::next_place`], [`Run::step`], [`Run::step_predicted`], [`Run::close`] |
 //!
 //! ```
 //! use hencouch::{estimate_motion, Mode, MotionVector, Place, Reference, Refusal, Search, Source};
@@ -45,6 +46,7 @@ mod arguments;
 mod events;
 mod levels;
 mod macroblock;
+mod predicted;
 mod prediction;
 #[allow(unsafe_code)]
 pub mod raw;
@@ -54,14 +56,18 @@ mod sample;
 mod search;
 
 pub use arguments::{
-    Mode, MotionVector, Place, Point, Prediction, Quantising, Reference, Source,
+    Mode, MotionVector, Place, Point, Prediction, Quantising, Reference, ReferencePlanes, Source,
     ALTERNATE_HORIZONTAL, ALTERNATE_VERTICAL, HALF, NO_WEIGHTS, QUARTER, ZIGZAG,
 };
 pub use events::{forward_scan, inter_scan, inverse_scan, levels_to_events, Areas, Events};
 pub use levels::{forward_dct_8x8, inverse_block, quantise_block};
 pub use macroblock::{
-    code_macroblock, inter_cbp, intra_activity, macroblock_residual, quantise_inter_block,
-    quantise_inter_residual, Patterns, Record, Settings,
+    code_macroblock, code_predicted_macroblock, inter_cbp, intra_activity, macroblock_residual,
+    quantise_inter_block, quantise_inter_residual, Patterns, Record, Settings,
+};
+pub use predicted::{
+    chroma_vector, chroma_vector_4mv, predict_macroblock, predict_macroblock_4mv, Predicted,
+    PredictionAreas,
 };
 pub use prediction::{
     predict_luma_block, predict_luma_macroblock, predict_luma_macroblock_4mv, source_chroma_block,

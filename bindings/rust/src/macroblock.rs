@@ -1,9 +1,9 @@
-//! A macroblock: its activity, its residual, its events, and the entry that searches and codes.
+//! A macroblock: its activity, its residual, its events, and the entries that search and code.
 
 use crate::refusal::{done, never_refused};
 use crate::search::{vector_of, vectors_of};
 use crate::{raw, Areas, Mode, MotionVector, Place, Prediction, Quantising};
-use crate::{Reference, Refusal, Source};
+use crate::{Reference, ReferencePlanes, Refusal, Source};
 
 /// Which blocks have an event.
 #[derive(Clone, Copy, Debug, Default, PartialEq, Eq)]
@@ -14,7 +14,8 @@ pub struct Patterns {
     pub chroma: u8,
 }
 
-/// How [`code_macroblock`] and [`crate::Run::step`] search and code.
+/// How [`code_macroblock`], [`code_predicted_macroblock`] and the steps of a [`crate::Run`] search and
+/// code.
 ///
 /// Refused: 1 where `fcode` is not 1 to 7, 2 and 3 as [`Mode`] says, 10 to 12 and 14 as
 /// [`Quantising`] says, 14 where `vectors` is neither 1 nor 4.
@@ -267,6 +268,66 @@ pub fn code_macroblock(
         quantising.weights, prediction.y, prediction.cb, prediction.cr, areas.lasts, areas.runs,
         areas.levels, &mut numbers.vector, &mut numbers.sum, &mut numbers.four_vectors,
         &mut numbers.four_sums, &mut numbers.patterns, &mut numbers.counts,
+    ))?;
+    Ok(numbers.record())
+}
+
+/// Searches for a macroblock, predicts it by the vectors found, the four where `settings.vectors` is
+/// 4, and codes its residual against that, as [`code_macroblock`] does against a lent prediction. A
+/// reader who has the reference's planes, the record and the rounding type gets the same prediction
+/// by [`crate::predict_macroblock`] or [`crate::predict_macroblock_4mv`].
+///
+/// Refused: 1, 2, 3, 10, 11, 12 and 14 as [`Settings`] says, 4 and 5 as [`ReferencePlanes`], 6 and 7
+/// as [`Source`], 8 as [`Place`], 12 as [`Areas`], 31 where `rounding` is above 1.
+///
+/// ```
+/// use hencouch::{code_predicted_macroblock, Events, Mode, MotionVector, Place, Quantising};
+/// use hencouch::{Reference, ReferencePlanes, Refusal, Settings, Source};
+///
+/// let texture = |x: usize, y: usize| (x * x * 7 + y * y * 13 + x * y * 5) as u8;
+/// let now: Vec<u8> = (0..48 * 32).map(|k| texture(k % 48 + 3, k / 48 + 1)).collect();
+/// let before: Vec<u8> = (0..48 * 32).map(|k| texture(k % 48, k / 48)).collect();
+/// let grey = [128; 24 * 16];
+/// let source = Source { y: &now, cb: &grey, cr: &[138; 24 * 16], width: 48, height: 32 };
+/// let luma = Reference { samples: &before, width: 48, height: 32, stride: 48 };
+/// let reference = ReferencePlanes { luma, cb: &grey, cr: &grey, chroma_stride: 24 };
+/// let settings = Settings {
+///     fcode: 1,
+///     mode: Mode::HALF,
+///     vectors: 1,
+///     quantising: Quantising::second_method(5),
+/// };
+/// let place = Place { column: 1, row: 0 };
+/// let mut events = Events::<384>::new();
+/// let record =
+///     code_predicted_macroblock(&settings, &reference, 0, &source, place, events.areas())?;
+/// assert_eq!((record.vector, record.sum), (MotionVector { x: 6, y: 2 }, 0));
+/// assert_eq!((record.counts, events.levels[320]), ([0, 0, 0, 0, 0, 1], 7));
+///
+/// let refused =
+///     code_predicted_macroblock(&settings, &reference, 2, &source, place, events.areas());
+/// assert_eq!(refused, Err(Refusal::RoundingType));
+/// # Ok::<(), Refusal>(())
+/// ```
+pub fn code_predicted_macroblock(
+    settings: &Settings,
+    reference: &ReferencePlanes,
+    rounding: u8,
+    source: &Source,
+    place: Place,
+    areas: Areas,
+) -> Result<Record, Refusal> {
+    let Settings { fcode, mode, vectors, quantising } = *settings;
+    let first_method = quantising.first_method.into();
+    let ReferencePlanes { luma, cb, cr, chroma_stride } = *reference;
+    let mut numbers = Numbers::default();
+    done(raw::code_predicted_macroblock(
+        fcode, mode.mode, mode.bits_per_pixel, quantising.quantiser, first_method, vectors,
+        quantising.scan, rounding, luma.samples, cb, cr, luma.width, luma.height, luma.stride,
+        chroma_stride, source.y, source.cb, source.cr, source.width, source.height, place.column,
+        place.row, quantising.weights, areas.lasts, areas.runs, areas.levels, &mut numbers.vector,
+        &mut numbers.sum, &mut numbers.four_vectors, &mut numbers.four_sums, &mut numbers.patterns,
+        &mut numbers.counts,
     ))?;
     Ok(numbers.record())
 }

@@ -1,12 +1,13 @@
 //! Luma predicted in either mode, and the blocks of a source.
 
 use crate::refusal::done;
+use crate::search::parts_of;
 use crate::{raw, Block, Mode, MotionVector, Place, Point, Reference, Refusal, Source};
 
 /// Predicts a luma block in either mode, row by row.
 ///
 /// Refused: 2 and 3 as [`Mode`] says, 4 and 5 as [`Reference`], 8 and 14 as [`Block`], 12 where
-/// `out` is not `block_w * block_h` long.
+/// `out` is not `block_w * block_h` long, 31 where the rounding type is above 1.
 ///
 /// ```
 /// use hencouch::{predict_luma_block, Block, Mode, MotionVector, Point, Reference, Refusal};
@@ -44,7 +45,8 @@ pub fn predict_luma_block(
 /// Predicts a macroblock's 16 x 16 luma samples with one vector, row by row.
 ///
 /// Refused: 2 and 3 as [`Mode`] says, 4 and 5 as [`Reference`], 8 where the origin is outside -4,096
-/// to 4,096 or the vector outside -2,048 to 2,047, 12 where `out` is not 256 long.
+/// to 4,096 or the vector outside -2,048 to 2,047, 12 where `out` is not 256 long, 31 where
+/// `rounding` is above 1.
 ///
 /// ```
 /// use hencouch::{predict_luma_macroblock, Mode, MotionVector, Point, Reference, Refusal};
@@ -110,18 +112,9 @@ pub fn predict_luma_macroblock_4mv(
 ) -> Result<(), Refusal> {
     let Reference { samples, width, height, stride } = *reference;
     let Mode { mode, bits_per_pixel } = mode;
-    let parts = vectors.map(|v| [v.x, v.y]);
+    let parts = &parts_of(vectors);
     done(raw::predict_luma_macroblock_4mv(
-        samples,
-        width,
-        height,
-        stride,
-        mode,
-        bits_per_pixel,
-        &std::array::from_fn(|k| parts[k / 2][k % 2]),
-        origin.x,
-        origin.y,
-        rounding,
+        samples, width, height, stride, mode, bits_per_pixel, parts, origin.x, origin.y, rounding,
         out,
     ))
 }

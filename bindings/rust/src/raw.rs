@@ -109,7 +109,7 @@ copy_block = hencouch_copy_block {
 });
 
 entry!(
-/// [`crate::predict_luma_block`]'s entry: 2, 3, 4, 5, 8, 12, 14.
+/// [`crate::predict_luma_block`]'s entry: 2, 3, 4, 5, 8, 12, 14, 31.
 predict_luma_block = hencouch_predict_luma_block {
     reads samples: u8, width: usize, height: usize, stride: usize,
     mode: u32, bits_per_pixel: u32,
@@ -119,7 +119,7 @@ predict_luma_block = hencouch_predict_luma_block {
 });
 
 entry!(
-/// [`crate::predict_luma_macroblock`]'s entry: 2, 3, 4, 5, 8, 12.
+/// [`crate::predict_luma_macroblock`]'s entry: 2, 3, 4, 5, 8, 12, 31.
 predict_luma_macroblock = hencouch_predict_luma_macroblock {
     reads samples: u8, width: usize, height: usize, stride: usize,
     mode: u32, bits_per_pixel: u32,
@@ -128,8 +128,8 @@ predict_luma_macroblock = hencouch_predict_luma_macroblock {
 });
 
 entry!(
-/// [`crate::predict_luma_macroblock_4mv`]'s entry: 2, 3, 4, 5, 8, 12. Each vector's horizontal, then
-/// vertical.
+/// [`crate::predict_luma_macroblock_4mv`]'s entry: 2, 3, 4, 5, 8, 12, 31. Each vector's horizontal,
+/// then vertical.
 predict_luma_macroblock_4mv = hencouch_predict_luma_macroblock_4mv {
     reads samples: u8, width: usize, height: usize, stride: usize,
     mode: u32, bits_per_pixel: u32,
@@ -276,3 +276,68 @@ step = hencouch_step {
 entry!(
 /// [`crate::Run::close`]'s entry: 23.
 close = hencouch_close { run: &[u64; 5], totals: &mut [u64; 3] });
+
+entry!(
+/// [`crate::chroma_vector`]'s entry: 2, 8.
+chroma_vector = hencouch_chroma_vector {
+    mode: u32, mv_x: i32, mv_y: i32, vector: &mut [i32; 2]
+});
+
+entry!(
+/// [`crate::chroma_vector_4mv`]'s entry: 2, 8. Each vector's horizontal, then vertical.
+chroma_vector_4mv = hencouch_chroma_vector_4mv {
+    mode: u32, vectors: &[i32; 8], vector: &mut [i32; 2]
+});
+
+entry!(
+/// [`crate::predict_macroblock`]'s entry: 2, 3, 4, 5, 8, 12, 31. Width, height and stride are luma's.
+predict_macroblock = hencouch_predict_macroblock {
+    reads ref_y: u8, reads ref_cb: u8, reads ref_cr: u8,
+    width: usize, height: usize, stride: usize, chroma_stride: usize,
+    mode: u32, bits_per_pixel: u32, mv_x: i32, mv_y: i32,
+    column: usize, row: usize, rounding: u8,
+    writes y: u8, writes cb: u8, writes cr: u8,
+});
+
+entry!(
+/// [`crate::predict_macroblock_4mv`]'s entry: 2, 3, 4, 5, 8, 12, 31. Each vector's horizontal, then
+/// vertical.
+predict_macroblock_4mv = hencouch_predict_macroblock_4mv {
+    reads ref_y: u8, reads ref_cb: u8, reads ref_cr: u8,
+    width: usize, height: usize, stride: usize, chroma_stride: usize,
+    mode: u32, bits_per_pixel: u32, vectors: &[i32; 8],
+    column: usize, row: usize, rounding: u8,
+    writes y: u8, writes cb: u8, writes cr: u8,
+});
+
+entry!(
+/// [`crate::code_predicted_macroblock`]'s entry: 1 to 8, 10, 11, 12, 14, 31. Any `first_method` but 0
+/// is the first.
+code_predicted_macroblock = hencouch_code_predicted_macroblock {
+    fcode: u32, mode: u32, bits_per_pixel: u32, quantiser: u32, first_method: u8,
+    vectors: u32, scan: u32, rounding: u8,
+    reads ref_y: u8, reads ref_cb: u8, reads ref_cr: u8,
+    ref_width: usize, ref_height: usize, stride: usize, chroma_stride: usize,
+    reads y: u8, reads cb: u8, reads cr: u8, width: usize, height: usize,
+    column: usize, row: usize,
+    reads weights: u8,
+    writes lasts: u8, writes runs: u8, writes levels: i32,
+    vector: &mut [i32; 2], sum: &mut u32, four_vectors: &mut [i32; 8], four_sums: &mut [u32; 4],
+    patterns: &mut [u8; 2], counts: &mut [u8; 6],
+});
+
+entry!(
+/// [`crate::Run::step_predicted`]'s entry: 21, 22, then 1 to 7, 10, 11, 12, 14, 31. Any
+/// `first_method` but 0 is the first.
+step_predicted = hencouch_step_predicted {
+    run: &mut [u64; 5],
+    fcode: u32, mode: u32, bits_per_pixel: u32, quantiser: u32, first_method: u8,
+    vectors: u32, scan: u32, rounding: u8,
+    reads ref_y: u8, reads ref_cb: u8, reads ref_cr: u8,
+    ref_width: usize, ref_height: usize, stride: usize, chroma_stride: usize,
+    reads y: u8, reads cb: u8, reads cr: u8, width: usize, height: usize,
+    reads weights: u8,
+    writes lasts: u8, writes runs: u8, writes levels: i32,
+    vector: &mut [i32; 2], sum: &mut u32, four_vectors: &mut [i32; 8], four_sums: &mut [u32; 4],
+    patterns: &mut [u8; 2], counts: &mut [u8; 6],
+});

@@ -22,16 +22,17 @@ pub enum Refusal {
     Mode = 2,
     /// Quarter samples, and `bits_per_pixel` is not 1 to 8.
     BitsPerPixel = 3,
-    /// The reference's width or height is not 1 to 4,096, or its stride not width to 8,192.
+    /// The reference's width or height is not 1 to 4,096, its stride not width to 8,192, or its chroma
+    /// stride not from chroma's width to 8,192.
     ReferenceSize = 4,
-    /// The reference has no more samples than (height - 1) * stride + width - 1.
+    /// A plane of the reference has no more samples than (height - 1) * stride + width - 1.
     ReferenceBytes = 5,
     /// The source's width or height is not 1 to 4,096.
     SourceSide = 6,
     /// A plane of the source is shorter than its width times its height.
     SourcePlane = 7,
-    /// The macroblock is not in the source. Where a block is predicted: its origin is outside
-    /// -4,096 to 4,096 or its vector outside -2,048 to 2,047.
+    /// The macroblock is not in the source. Where a block is predicted, alone or in a macroblock:
+    /// its origin is outside -4,096 to 4,096 or its vector outside -2,048 to 2,047.
     Place = 8,
     /// The seed of the four vectors is outside the range that `fcode` gives.
     Seed = 9,
@@ -53,11 +54,13 @@ pub enum Refusal {
     OtherSize = 22,
     /// The run is closed before its last macroblock.
     BeforeLast = 23,
+    /// The rounding type is above 1. Interpolation keeps its low bit and refuses none.
+    RoundingType = 31,
 }
 
 impl Refusal {
     /// Every refusal, in the order of the numbers.
-    pub const ALL: [Refusal; 17] = [
+    pub const ALL: [Refusal; 18] = [
         Refusal::Fcode,
         Refusal::Mode,
         Refusal::BitsPerPixel,
@@ -75,9 +78,11 @@ impl Refusal {
         Refusal::AfterLast,
         Refusal::OtherSize,
         Refusal::BeforeLast,
+        Refusal::RoundingType,
     ];
 
-    /// The number by which the C entries answer: 1 to 14 for the input, 21 to 23 for the run.
+    /// The number by which the C entries answer: 1 to 14 and 31 for the input, 21 to 23 for the
+    /// run.
     pub const fn number(self) -> u8 {
         self as u8
     }
@@ -107,6 +112,7 @@ impl Refusal {
             Refusal::AfterLast => "the run has had its last macroblock",
             Refusal::OtherSize => "the source has not the run's size",
             Refusal::BeforeLast => "the run has not had its last macroblock",
+            Refusal::RoundingType => "the rounding type is above 1",
         }
     }
 }
@@ -139,7 +145,7 @@ mod tests {
     use super::*;
 
     /// The two lists.
-    const NUMBERS: [u8; 17] = [1, 2, 3, 4, 5, 6, 7, 8, 9, 10, 11, 12, 13, 14, 21, 22, 23];
+    const NUMBERS: [u8; 18] = [1, 2, 3, 4, 5, 6, 7, 8, 9, 10, 11, 12, 13, 14, 21, 22, 23, 31];
 
     #[test]
     fn every_refusal_has_its_number() {

@@ -2,7 +2,8 @@
 
 use crate::macroblock::Numbers;
 use crate::refusal::{done, never_refused};
-use crate::{raw, Areas, Place, Prediction, Record, Reference, Refusal, Settings, Source};
+use crate::{raw, Areas, Place, Prediction, Record, Reference, ReferencePlanes};
+use crate::{Refusal, Settings, Source};
 
 /// A picture's run. Whatever its numbers are, each call answers as is said of it; one that would
 /// reach 2^64 goes on from 0.
@@ -141,6 +142,59 @@ impl Run {
             areas.runs, areas.levels, &mut numbers.vector, &mut numbers.sum,
             &mut numbers.four_vectors, &mut numbers.four_sums, &mut numbers.patterns,
             &mut numbers.counts,
+        ))?;
+        *self = Run::of(run);
+        Ok(numbers.record())
+    }
+
+    /// Searches for the run's next macroblock, predicts it by the vectors found and codes it, as
+    /// [`crate::code_predicted_macroblock`] does there; else as [`Run::step`], and either may follow
+    /// the other.
+    ///
+    /// Refused: 21 after the last macroblock, 22 where the source's sides are not the run's, then as
+    /// [`crate::code_predicted_macroblock`].
+    ///
+    /// ```
+    /// use hencouch::{Events, Mode, Quantising, Reference, ReferencePlanes, Refusal, Run, Settings};
+    /// use hencouch::Source;
+    ///
+    /// let (luma, chroma) = ([100; 20 * 16], [100; 10 * 8]);
+    /// let source = Source { y: &luma, cb: &chroma, cr: &chroma, width: 20, height: 16 };
+    /// let before = Reference { samples: &[98; 20 * 16], width: 20, height: 16, stride: 20 };
+    /// let reference =
+    ///     ReferencePlanes { luma: before, cb: &chroma, cr: &chroma, chroma_stride: 10 };
+    /// let quantising = Quantising::second_method(5);
+    /// let settings = Settings { fcode: 1, mode: Mode::HALF, vectors: 1, quantising };
+    /// let mut events = Events::<384>::new();
+    /// let mut run = Run::open(20, 16)?;
+    /// let record = run.step_predicted(&settings, &reference, 0, &source, events.areas())?;
+    /// assert_eq!((record.sum, run.macroblocks, run.events), (512, 1, 4));
+    ///
+    /// let refused = run.step_predicted(&settings, &reference, 2, &source, events.areas());
+    /// assert_eq!(refused, Err(Refusal::RoundingType));
+    /// assert_eq!(run.macroblocks, 1);
+    /// # Ok::<(), Refusal>(())
+    /// ```
+    pub fn step_predicted(
+        &mut self,
+        settings: &Settings,
+        reference: &ReferencePlanes,
+        rounding: u8,
+        source: &Source,
+        areas: Areas,
+    ) -> Result<Record, Refusal> {
+        let Settings { fcode, mode, vectors, quantising } = *settings;
+        let first_method = quantising.first_method.into();
+        let ReferencePlanes { luma, cb, cr, chroma_stride } = *reference;
+        let mut run = self.numbers();
+        let mut numbers = Numbers::default();
+        done(raw::step_predicted(
+            &mut run, fcode, mode.mode, mode.bits_per_pixel, quantising.quantiser, first_method,
+            vectors, quantising.scan, rounding, luma.samples, cb, cr, luma.width, luma.height,
+            luma.stride, chroma_stride, source.y, source.cb, source.cr, source.width,
+            source.height, quantising.weights, areas.lasts, areas.runs, areas.levels,
+            &mut numbers.vector, &mut numbers.sum, &mut numbers.four_vectors,
+            &mut numbers.four_sums, &mut numbers.patterns, &mut numbers.counts,
         ))?;
         *self = Run::of(run);
         Ok(numbers.record())

@@ -35,7 +35,8 @@ pub struct Block {
     pub block_w: usize,
     /// 8 or 16.
     pub block_h: usize,
-    /// The rounding type, of which only the low bit counts.
+    /// The rounding type. Interpolation keeps its low bit; [`crate::predict_luma_block`] refuses one
+    /// above 1.
     pub rounding: u8,
 }
 

@@ -118,3 +118,8 @@ pub(crate) fn vector_of([x, y]: [i32; 2]) -> MotionVector {
 pub(crate) fn vectors_of(numbers: [i32; 8]) -> [MotionVector; 4] {
     std::array::from_fn(|k| vector_of([numbers[2 * k], numbers[2 * k + 1]]))
 }
+
+/// And back.
+pub(crate) fn parts_of(vectors: &[MotionVector; 4]) -> [i32; 8] {
+    std::array::from_fn(|k| [vectors[k / 2].x, vectors[k / 2].y][k % 2])
+}

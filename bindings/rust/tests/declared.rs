@@ -104,7 +104,7 @@ fn c_type(sort: &str) -> &'static str {
 #[test]
 fn raw_declares_what_the_header_declares() {
     let header = in_header();
-    assert_eq!(header.len(), 31, "the header's entries");
+    assert_eq!(header.len(), 37, "the header's entries");
     for (declared, wanted) in in_raw().iter().zip(&header) {
         assert_eq!(declared, wanted);
     }

@@ -5,17 +5,14 @@ use mathlib.Core.List.{List}
 use lib.Dec.{eqb}
 use lib.IntN.{ℤ, pos}
 use lib.ListN.{getD}
-use Rattle.refusal.specs.declared.Refusal.the-variants.{Mode}
-use Rattle.refusal.specs.declared.Reply.{Reply}
-use Rattle.refusal.specs.declared.Reply.the-variants.{Done}
-use Rattle.refusal.specs.Reply.{unless}
-use Rattle.refusal.specs.Bounds.{isMode}
 use Rattle.record.specs.declared.MotionVector.{MotionVector}
 use Rattle.plane.specs.declared.Point.{Point}
 use Rattle.plane.specs.declared.SourceSize.{SourceSize}
 use Rattle.plane.specs.declared.MacroblockPlace.{MacroblockPlace}
+use Rattle.plane.specs.Plane.{geometryOf}
 use Rattle.prediction.specs.declared.PvopMbMotion.{PvopMbMotion}
 use Rattle.prediction.specs.declared.PvopMbMotion.the-variants.{FourMv}
+use Rattle.prediction.specs.declared.ReferenceGeometry.{ReferenceGeometry}
 use Rattle.macroblock.specs.declared.Settings.{Settings}
 
 abbrev pub vectorOf : ℤ → ℤ → MotionVector
@@ -46,9 +43,9 @@ flagOf b = cond b 1 0
 abbrev pub fourMotion : List ℤ → PvopMbMotion
 fourMotion l = FourMv (pairOf l 0) (pairOf l 1) (pairOf l 2) (pairOf l 3)
 
--- 2: a mode that is neither 0, half samples, nor 1, quarter samples
-unfoldable pub modeNumberReply : ℕ → Reply
-modeNumberReply mode = unless (isMode mode) Mode Done
+-- luma's sizes and stride, and the stride of both chroma planes
+abbrev pub referenceGeometry : ℕ → ℕ → ℕ → ℕ → ReferenceGeometry
+referenceGeometry width height stride chroma = record { luma = geometryOf width height stride; «chroma_stride» = chroma }
 
 abbrev pub macroblockSettings : ℕ → ℕ → ℕ → ℕ → ℕ → ℕ → ℕ → Settings
 macroblockSettings fcode mode bpp quantiser first vectors scan =

@@ -1,14 +1,14 @@
 // Structs from the numbers that C hands over.
 ghost use mathlib.Core.Path.{_≡_};
 ghost use Rattle.plane.specs.Corner.{blockAt};
-ghost use Rattle.areas.specs.Numbers.{vectorOf, pointOf, isSet, flagOf, modeNumberReply, fourMotion, macroblockSettings};
+ghost use Rattle.areas.specs.Numbers.{vectorOf, pointOf, isSet, flagOf, fourMotion, referenceGeometry, macroblockSettings};
 use macroblock::Settings;
+use plane::Geometry;
 use plane::Point;
 use plane::Site;
 use prediction::PvopMbMotion;
+use prediction::ReferenceGeometry;
 use record::MotionVector;
-use refusal::Refusal;
-use refusal::Reply;
 
 // Horizontal, then vertical.
 pub fn vector_of(x: i32, y: i32) -> MotionVector
@@ -50,14 +50,6 @@ pub fn flag_of(yes: bool) -> u8
     if yes { 1 } else { 0 }
 }
 
-// 2.
-pub fn mode_number_reply(mode: u32) -> Reply
-    ensures { λ r. ⌜ r ≡ modeNumberReply mode ⌝ }
-{
-    let known = refusal::either(mode == 0, mode == 1);
-    refusal::unless(known, Refusal::Mode, Reply::Done)
-}
-
 // Each vector's horizontal, then vertical.
 pub fn four_motion(n: [i32; 8]) -> PvopMbMotion
     ensures { λ r. ⌜ r ≡ fourMotion n ⌝ }
@@ -67,6 +59,26 @@ pub fn four_motion(n: [i32; 8]) -> PvopMbMotion
     let c = vector_of(n[4], n[5]);
     let d = vector_of(n[6], n[7]);
     PvopMbMotion::FourMv(a, b, c, d)
+}
+
+// Luma's sizes and stride, and the stride of both chroma planes.
+pub fn reference_geometry(
+    width: usize,
+    height: usize,
+    stride: usize,
+    chroma_stride: usize,
+) -> ReferenceGeometry
+    ensures { λ r. ⌜ r ≡ referenceGeometry width height stride «chroma_stride» ⌝ }
+{
+    let luma = Geometry {
+        width,
+        height,
+        stride,
+    };
+    ReferenceGeometry {
+        luma,
+        chroma_stride,
+    }
 }
 
 pub fn settings_of(

@@ -12,7 +12,7 @@ use refusal::Reply;
 use scan::Events;
 
 // Horizontal, then vertical.
-fn vector_area(v: MotionVector) -> [i32; 2]
+pub fn vector_area(v: MotionVector) -> [i32; 2]
     ensures { λ r. ⌜ r ≡ vectorArea v ⌝ }
 {
     [v.x, v.y]

@@ -6,6 +6,8 @@ ghost use lib.ListN.{length, set};
 ghost use Rattle.refusal.specs.Number.{codeOf};
 ghost use Rattle.refusal.specs.Reply.{done};
 ghost use Rattle.areas.specs.Search.{oneAreasReply, fourAreasReply, vectorArea, vectorsArea};
+use crate::records;
+use prediction::ChromaVector;
 use record::MotionVector;
 use refusal::Refusal;
 use refusal::Reply;
@@ -21,6 +23,22 @@ fn write_vector(v: MotionVector, at: usize, out: &mut [i32])
     let y = v.y;
     out[at] = x;
     out[at + 1] = y;
+}
+
+// The chroma vector, where there is one, and the reply's number.
+pub fn write_chroma(told: ChromaVector, vector: &mut [i32; 2]) -> u8
+    ensures { λ r. ⌜ r ≡ codeOf (told .reply) ⌝ }
+    ensures { λ _. ⌜ now (vector .exit) ≡ done (told .reply) (vectorArea (told .vector)) (now (vector .entry)) ⌝ }
+{
+    let reply = told.reply;
+    match reply {
+        Reply::Refused(why) => refusal::number(why),
+        Reply::Done => {
+            let v = told.vector;
+            *vector = records::vector_area(v);
+            0
+        }
+    }
 }
 
 // What the search answered, into two areas; 12 where they are not 2 and 1 long.

@@ -20,7 +20,7 @@ use Rattle.plane.specs.declared.SourceSize.{SourceSize}
 use Rattle.plane.specs.declared.MacroblockPlace.{MacroblockPlace}
 use Rattle.plane.specs.Source.{sourceReply}
 use Rattle.quantise.specs.Block.{weightReply}
-use Rattle.coding.specs.Residual.{Samples}
+use Rattle.plane.specs.Samples.{Samples}
 use Rattle.coding.specs.Coding.{Quantising}
 use Rattle.coding.specs.Told.{CodingAccepted, ResidualAccepted}
 use Rattle.coding.specs.Reply.{residualReply, codingReply}

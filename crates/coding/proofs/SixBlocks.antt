@@ -12,7 +12,8 @@ use Rattle.basis.proofs.Case.{then, else}
 use Rattle.basis.proofs.Lists.{length-tabulate, getD-rows, length-rows}
 use Rattle.refusal.specs.Test.{inRange}
 use Rattle.plane.specs.Source.{eightOf}
-use Rattle.coding.specs.Residual.{Samples, samplesOf, blockResidual, residualOf, ResidualRange}
+use Rattle.plane.specs.Samples.{Samples}
+use Rattle.coding.specs.Residual.{samplesOf, blockResidual, residualOf, ResidualRange}
 
 pub block-length : (s p : List ℕ) → length (blockResidual s p) ≡ 64
 block-length s p = length-tabulate 64 (λ k. pos (getD s k 0) -ℤ pos (getD p k 0))

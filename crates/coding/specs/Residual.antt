@@ -10,16 +10,8 @@ use Rattle.basis.specs.Lists.{tabulate, rows}
 use Rattle.refusal.specs.Test.{inRange}
 use Rattle.plane.specs.declared.SourceSize.{SourceSize}
 use Rattle.plane.specs.declared.MacroblockPlace.{MacroblockPlace}
+use Rattle.plane.specs.Samples.{Samples, samples}
 use Rattle.plane.specs.Source.{sourceLuma, sourceChroma, eightOf}
-
--- samples of a macroblock: 16 x 16 of luma, 8 x 8 of Cb and of Cr, each by rows
-pub record Samples : Type 0 where
-  pub y : List ℕ
-  pub cb : List ℕ
-  pub cr : List ℕ
-
-abbrev pub samples : List ℕ → List ℕ → List ℕ → Samples
-samples y cb cr = record { y = y; cb = cb; cr = cr }
 
 -- block b of six: four luma, Cb, Cr
 abbrev pub samplesOf : Samples → ℕ → List ℕ

@@ -11,7 +11,8 @@ use Rattle.quantise.specs.Block.{weightReply}
 use Rattle.plane.specs.declared.SourceSize.{SourceSize}
 use Rattle.plane.specs.declared.MacroblockPlace.{MacroblockPlace}
 use Rattle.plane.specs.Source.{sourceReply}
-use Rattle.coding.specs.Residual.{Samples, ResidualRange}
+use Rattle.plane.specs.Samples.{Samples}
+use Rattle.coding.specs.Residual.{ResidualRange}
 use Rattle.coding.specs.Coding.{Quantising}
 
 -- the samples of a macroblock

@@ -5,8 +5,8 @@ use libc::STDOUT_FILENO;
 // By the entry's number; 0 for a call of no entry.
 pub struct Tally {
     pub calls: u64,
-    pub equal: [u64; 32],
-    pub refused: [u64; 32],
+    pub equal: [u64; 38],
+    pub refused: [u64; 38],
 }
 
 // Whether there was a call, and what is counted with it.
@@ -23,17 +23,20 @@ fn replay(call: &[u8]) -> bool {
     if entry < 27 {
         return replay_macroblocks::replay(call);
     }
+    if refusal::both(31 < entry, entry < 36) {
+        return replay_blocks::replay(call);
+    }
     replay_pictures::replay(call)
 }
 
 fn place_of(entry: u8) -> usize
-    ensures { λ r. ⌜ r < 32 ⌝ }
+    ensures { λ r. ⌜ r < 38 ⌝ }
 {
-    if entry < 32 { entry as usize } else { 0 }
+    if entry < 38 { entry as usize } else { 0 }
 }
 
 // One more at a place, if there is one to count.
-fn one_more(counts: [u64; 32], entry: u8, yes: bool) -> [u64; 32] {
+fn one_more(counts: [u64; 38], entry: u8, yes: bool) -> [u64; 38] {
     let mut all = counts;
     let at = place_of(entry);
     if yes {
@@ -95,8 +98,8 @@ fn next(input: i32, before: Tally) -> Turn {
 fn nothing() -> Tally {
     Tally {
         calls: 0,
-        equal: [0; 32],
-        refused: [0; 32],
+        equal: [0; 38],
+        refused: [0; 38],
     }
 }
 
@@ -113,6 +116,18 @@ pub fn replay_all(input: i32) -> Tally {
         left -= 1;
     }
     tally
+}
+
+// Of the entries from 32 on, which predict.
+fn predicted_name(entry: usize) -> bool {
+    match entry {
+        32 => io::write_all(STDOUT_FILENO, b"chroma_vector"),
+        33 => io::write_all(STDOUT_FILENO, b"chroma_vector_4mv"),
+        34 => io::write_all(STDOUT_FILENO, b"predict_macroblock"),
+        35 => io::write_all(STDOUT_FILENO, b"predict_macroblock_4mv"),
+        36 => io::write_all(STDOUT_FILENO, b"code_predicted_macroblock"),
+        _ => io::write_all(STDOUT_FILENO, b"step_predicted"),
+    }
 }
 
 fn name(entry: usize) -> bool {
@@ -147,7 +162,8 @@ fn name(entry: usize) -> bool {
         28 => io::write_all(STDOUT_FILENO, b"open"),
         29 => io::write_all(STDOUT_FILENO, b"next_place"),
         30 => io::write_all(STDOUT_FILENO, b"step"),
-        _ => io::write_all(STDOUT_FILENO, b"close"),
+        31 => io::write_all(STDOUT_FILENO, b"close"),
+        _ => predicted_name(entry),
     }
 }
 
@@ -170,7 +186,7 @@ pub fn print_all(tally: Tally) {
     let equal = tally.equal;
     let refused = tally.refused;
     let mut entry: usize = 1;
-    while entry < 32 {
+    while entry < 38 {
         print_line(entry, equal[entry], refused[entry]);
         entry += 1;
     }

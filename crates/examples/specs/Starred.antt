@@ -1,9 +1,9 @@
--- The starred worked examples of docs/RULES.md, X, a row each. They are about the definitions that the promises cite.
+-- The starred worked examples of docs/RULES.md, X, and those of the chroma vector, a row each. They are about the definitions that the promises cite.
 use Prim.Native.Nat.{ℕ}
 use mathlib.Core.Bool.{Bool, true, false, not, _&&_}
 use mathlib.Core.List.{List, [], _∷_}
 use lib.Dec.{eqb}
-use lib.IntN.{ℤ, pos, negsuc}
+use lib.IntN.{ℤ, pos, negsuc, _+ℤ_}
 use lib.ListN.{length, getD, set, replicate}
 use lib.Signed.{leZ}
 use Rattle.half_sample.specs.declared.HalfPel.{HalfPel}
@@ -12,6 +12,10 @@ use Rattle.half_sample.specs.Average.{average2Of, average4Of}
 use Rattle.quarter_sample.specs.declared.QuarterPel.{QuarterPel}
 use Rattle.quarter_sample.specs.Split.{splitQuarter}
 use Rattle.quarter_sample.specs.Filter.{mirror, fir, largest}
+use Rattle.prediction.specs.declared.BVopSampleMode.{BVopSampleMode}
+use Rattle.prediction.specs.Luma.{modeOf}
+use Rattle.prediction.specs.declared.PvopMbMotion.the-variants.{OneMv, FourMv}
+use Rattle.prediction.specs.Chroma.{inHalves, chromaVector}
 use Rattle.quantise.specs.Level.{levelByQuantiser, levelByWeight, inverseByQuantiser}
 use Rattle.scan.specs.Event.{eventsOf, lastsArea, runsArea, levelsArea}
 use Rattle.scan.specs.Grid.{gridOf, scanned}
@@ -121,10 +125,59 @@ patterns =
     let counts : List ℕ = 1 ∷ 0 ∷ 0 ∷ 1 ∷ 0 ∷ 1 ∷ [] in
     eqb (lumaPattern counts) 9 ∷ eqb (chromaPattern counts) 1 ∷ []
 
+-- the two modes
+abbrev pub half : BVopSampleMode
+half = modeOf 0 8
+
+abbrev pub quarter : BVopSampleMode
+quarter = modeOf 1 8
+
+-- a vector that moves across alone, and how far chroma is moved by one of them, or by four, in half samples
+abbrev pub across : ℤ → MotionVector
+across z = record { x = z; y = pos 0 }
+
+abbrev pub byOne : BVopSampleMode → ℤ → ℤ
+byOne m z = chromaVector m (OneMv (across z)) .x
+
+abbrev pub byFour : BVopSampleMode → ℤ → ℤ → ℤ → ℤ → ℤ
+byFour m a b c d = chromaVector m (FourMv (across a) (across b) (across c) (across d)) .x
+
+unfoldable pub chroma : List Bool
+chroma =
+    -- one vector in half samples: -1, -2 and -3 give -1, and -5 gives -3
+    equalZ (byOne half (negsuc 0)) (negsuc 0)
+    ∷ equalZ (byOne half (negsuc 1)) (negsuc 0)
+    ∷ equalZ (byOne half (negsuc 2)) (negsuc 0)
+    ∷ equalZ (byOne half (negsuc 4)) (negsuc 2)
+    -- in quarter samples: -1 gives 0, and -2, -3 and -5 give -1
+    ∷ equalZ (byOne quarter (negsuc 0)) (pos 0)
+    ∷ equalZ (byOne quarter (negsuc 1)) (negsuc 0)
+    ∷ equalZ (byOne quarter (negsuc 2)) (negsuc 0)
+    ∷ equalZ (byOne quarter (negsuc 4)) (negsuc 0)
+    -- four that add to 2 give 0; to 3 and 13, 1; to 14, 15 and 16, 2
+    ∷ equalZ (byFour half (pos 1) (pos 1) (pos 0) (pos 0)) (pos 0)
+    ∷ equalZ (byFour half (pos 1) (pos 1) (pos 1) (pos 0)) (pos 1)
+    ∷ equalZ (byFour half (pos 4) (pos 3) (pos 3) (pos 3)) (pos 1)
+    ∷ equalZ (byFour half (pos 4) (pos 4) (pos 3) (pos 3)) (pos 2)
+    ∷ equalZ (byFour half (pos 4) (pos 4) (pos 4) (pos 3)) (pos 2)
+    ∷ equalZ (byFour half (pos 4) (pos 4) (pos 4) (pos 4)) (pos 2)
+    -- and their negatives
+    ∷ equalZ (byFour half (negsuc 0) (negsuc 0) (pos 0) (pos 0)) (pos 0)
+    ∷ equalZ (byFour half (negsuc 0) (negsuc 0) (negsuc 0) (pos 0)) (negsuc 0)
+    ∷ equalZ (byFour half (negsuc 3) (negsuc 2) (negsuc 2) (negsuc 2)) (negsuc 0)
+    ∷ equalZ (byFour half (negsuc 3) (negsuc 3) (negsuc 2) (negsuc 2)) (negsuc 1)
+    ∷ equalZ (byFour half (negsuc 3) (negsuc 3) (negsuc 3) (negsuc 2)) (negsuc 1)
+    ∷ equalZ (byFour half (negsuc 3) (negsuc 3) (negsuc 3) (negsuc 3)) (negsuc 1)
+    -- in quarter samples each is halved before they are added: -1, -1, 0 and 0 add to 0, not -1
+    ∷ equalZ (inHalves quarter (negsuc 0) +ℤ inHalves quarter (negsuc 0)) (pos 0)
+    -- so that -3, -1, -1 and -1, which add to -1 and not to -3, give 0
+    ∷ equalZ (byFour quarter (negsuc 2) (negsuc 0) (negsuc 0) (negsuc 0)) (pos 0)
+    ∷ []
+
 abbrev pub hold : List Bool → Bool
 hold [] = true
 hold (t ∷ ts) = t && hold ts
 
 -- all of it
 unfoldable pub starred : Bool
-starred = hold ranges && hold splits && hold averages && hold taps && hold reflections && hold levels && hold events && hold patterns
+starred = hold ranges && hold splits && hold averages && hold taps && hold reflections && hold levels && hold events && hold patterns && hold chroma

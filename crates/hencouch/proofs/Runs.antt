@@ -1,4 +1,4 @@
--- The answers of the run's entries, laid out in areas. Assumes nothing.
+-- The answers of entries, of the run's among them, laid out in areas. Assumes nothing.
 use Prim.Native.Nat.{ℕ}
 use mathlib.Core.List.{List}
 use mathlib.Core.Path.{_≡_, ap, _∙_}
@@ -11,10 +11,10 @@ use Rattle.areas.specs.Run.{runNumbers}
 use Rattle.areas.specs.Whole.{RecordAreas, recordAreasOf}
 
 -- a is the answer b, r its reply's number, and new what its numbers leave of the area that held old
-pub numbered : {A : Type 0} (reply : A → Reply) (numbers : A → List ℕ) (a b : A) (r : ℕ) (new old : List ℕ)
+pub numbered : {A X : Type 0} (reply : A → Reply) (numbers : A → X) (a b : A) (r : ℕ) (new old : X)
     → a ≡ b → r ≡ codeOf (reply a) → new ≡ done (reply a) (numbers a) old
     → (r ≡ codeOf (reply b)) × (new ≡ done (reply b) (numbers b) old)
-numbered {A} reply numbers a b r new old e p w = (
+numbered {A} {X} reply numbers a b r new old e p w = (
   p ∙ ap (λ (x : A). codeOf (reply x)) e,
   w ∙ ap (λ (x : A). done (reply x) (numbers x) old) e,
 )

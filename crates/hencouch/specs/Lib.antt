@@ -1,2 +1,1 @@
-pub mod Predicted
 pub mod ToldFetched

@@ -9,69 +9,11 @@ ghost use Rattle.prediction.specs.Macroblock.{macroblockLuma};
 ghost use Rattle.prediction.specs.declared.PvopMbMotion.the-variants.{OneMv};
 ghost use Rattle.plane.specs.Corner.{blockAt};
 ghost use Rattle.areas.specs.Numbers.{vectorOf, pointOf, fourMotion};
-ghost use Rattle.hencouch.specs.Predicted.{lumaBlockReply, lumaMacroblockReply};
+ghost use Rattle.predicting.specs.Luma.{lumaBlockReply, lumaMacroblockReply};
 use plane::Geometry;
-use plane::Point;
-use plane::Site;
 use prediction::PvopMbMotion;
-use record::MotionVector;
-use refusal::Reply;
 
-// A block: 2, then as the mode has it.
-fn predict_block(
-    samples: &[u8],
-    geometry: Geometry,
-    mode: u32,
-    bpp: u32,
-    vector: MotionVector,
-    site: Site,
-    rounding: u8,
-    out: &mut [u8],
-) -> Reply
-    ensures { λ r. ⌜ r ≡ lumaBlockReply mode bpp geometry (length (now (samples .entry))) vector site (length (now (out .entry))) ⌝ }
-    ensures { λ r. ⌜ now (out .exit) ≡ done r (predictedBlock (modeOf mode bpp) (planeOf (now (samples .entry)) geometry) site rounding vector) (now (out .entry)) ⌝ }
-{
-    let known = areas::numbers::mode_number_reply(mode);
-    let units = prediction::mode_of(mode, bpp);
-    match known {
-        Reply::Refused(why) => Reply::Refused(why),
-        Reply::Done => {
-            prediction::predict_luma_block(samples, geometry, units, site, vector, rounding, out)
-        }
-    }
-}
-
-// A macroblock: 2, then as the mode has it.
-fn predict_macroblock(
-    samples: &[u8],
-    geometry: Geometry,
-    mode: u32,
-    bpp: u32,
-    motion: PvopMbMotion,
-    corner: Point,
-    rounding: u8,
-    out: &mut [u8],
-) -> Reply
-    ensures { λ r. ⌜ r ≡ lumaMacroblockReply mode bpp geometry (length (now (samples .entry))) motion corner (length (now (out .entry))) ⌝ }
-    ensures { λ r. ⌜ now (out .exit) ≡ done r (macroblockLuma (modeOf mode bpp) (planeOf (now (samples .entry)) geometry) motion corner rounding) (now (out .entry)) ⌝ }
-{
-    let known = areas::numbers::mode_number_reply(mode);
-    let units = prediction::mode_of(mode, bpp);
-    match known {
-        Reply::Refused(why) => Reply::Refused(why),
-        Reply::Done => prediction::predict_luma_macroblock(
-            samples,
-            geometry,
-            units,
-            motion,
-            corner,
-            rounding,
-            out,
-        ),
-    }
-}
-
-// The luma of a block: 2, 3, 4, 5, 8, 12, 14.
+// The luma of a block: 2, 3, 4, 5, 8, 12, 14, 31.
 #[no_mangle]
 pub extern "C" fn hencouch_predict_luma_block(
     samples: &[u8],
@@ -93,7 +35,7 @@ pub extern "C" fn hencouch_predict_luma_block(
         let geometry = geometryOf width height stride in
         let vector = vectorOf «mv_x» «mv_y» in
         let site = blockAt «origin_x» «origin_y» «block_w» «block_h» in
-        let reply = lumaBlockReply mode «bits_per_pixel» geometry (length (now (samples .entry))) vector site (length (now (out .entry))) in
+        let reply = lumaBlockReply mode «bits_per_pixel» geometry (length (now (samples .entry))) vector site rounding (length (now (out .entry))) in
         let block = predictedBlock (modeOf mode «bits_per_pixel») (planeOf (now (samples .entry)) geometry) site rounding vector in
         (r ≡ codeOf reply) × (now (out .exit) ≡ done reply block (now (out .entry)))
         ) ⌝ }
@@ -105,7 +47,7 @@ pub extern "C" fn hencouch_predict_luma_block(
     };
     let vector = areas::numbers::vector_of(mv_x, mv_y);
     let site = areas::numbers::site_of(origin_x, origin_y, block_w, block_h);
-    let reply = predict_block(
+    let reply = predicting::predict_luma_block(
         samples,
         geometry,
         mode,
@@ -118,7 +60,7 @@ pub extern "C" fn hencouch_predict_luma_block(
     refusal::code(reply)
 }
 
-// The luma of a macroblock by one vector: 2, 3, 4, 5, 8, 12.
+// The luma of a macroblock by one vector: 2, 3, 4, 5, 8, 12, 31.
 #[no_mangle]
 pub extern "C" fn hencouch_predict_luma_macroblock(
     samples: &[u8],
@@ -138,7 +80,7 @@ pub extern "C" fn hencouch_predict_luma_macroblock(
         let geometry = geometryOf width height stride in
         let motion = OneMv (vectorOf «mv_x» «mv_y») in
         let corner = pointOf «origin_x» «origin_y» in
-        let reply = lumaMacroblockReply mode «bits_per_pixel» geometry (length (now (samples .entry))) motion corner (length (now (out .entry))) in
+        let reply = lumaMacroblockReply mode «bits_per_pixel» geometry (length (now (samples .entry))) motion corner rounding (length (now (out .entry))) in
         let luma = macroblockLuma (modeOf mode «bits_per_pixel») (planeOf (now (samples .entry)) geometry) motion corner rounding in
         (r ≡ codeOf reply) × (now (out .exit) ≡ done reply luma (now (out .entry)))
         ) ⌝ }
@@ -150,7 +92,7 @@ pub extern "C" fn hencouch_predict_luma_macroblock(
     };
     let vector = areas::numbers::vector_of(mv_x, mv_y);
     let corner = areas::numbers::point_of(origin_x, origin_y);
-    let reply = predict_macroblock(
+    let reply = predicting::predict_luma_macroblock(
         samples,
         geometry,
         mode,
@@ -163,7 +105,7 @@ pub extern "C" fn hencouch_predict_luma_macroblock(
     refusal::code(reply)
 }
 
-// The same by four vectors, one for each 8 x 8 block: 2, 3, 4, 5, 8, 12.
+// The same by four vectors, one for each 8 x 8 block: 2, 3, 4, 5, 8, 12, 31.
 #[no_mangle]
 pub extern "C" fn hencouch_predict_luma_macroblock_4mv(
     samples: &[u8],
@@ -182,7 +124,7 @@ pub extern "C" fn hencouch_predict_luma_macroblock_4mv(
         let geometry = geometryOf width height stride in
         let motion = fourMotion (now (vectors .entry)) in
         let corner = pointOf «origin_x» «origin_y» in
-        let reply = lumaMacroblockReply mode «bits_per_pixel» geometry (length (now (samples .entry))) motion corner (length (now (out .entry))) in
+        let reply = lumaMacroblockReply mode «bits_per_pixel» geometry (length (now (samples .entry))) motion corner rounding (length (now (out .entry))) in
         let luma = macroblockLuma (modeOf mode «bits_per_pixel») (planeOf (now (samples .entry)) geometry) motion corner rounding in
         (r ≡ codeOf reply) × (now (out .exit) ≡ done reply luma (now (out .entry)))
         ) ⌝ }
@@ -194,7 +136,7 @@ pub extern "C" fn hencouch_predict_luma_macroblock_4mv(
     };
     let motion = areas::numbers::four_motion(*vectors);
     let corner = areas::numbers::point_of(origin_x, origin_y);
-    let reply = predict_macroblock(
+    let reply = predicting::predict_luma_macroblock(
         samples,
         geometry,
         mode,

@@ -55,7 +55,7 @@ lent q e =
     }
 
 -- 14 of the scan
-scan-known : (vectors scan : ℕ) → choiceReply vectors scan ≡ Done → between 0 2 scan ≡ true
+pub scan-known : (vectors scan : ℕ) → choiceReply vectors scan ≡ Done → between 0 2 scan ≡ true
 unfolding choiceReply
 scan-known vectors scan e =
     and-right (eqb vectors 1 || eqb vectors 4) (between 0 2 scan) (unless-done ((eqb vectors 1 || eqb vectors 4) && between 0 2 scan) Choice Done e)

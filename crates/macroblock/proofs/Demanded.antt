@@ -10,6 +10,7 @@ use lib.ListN.{getD, replicate}
 use Rattle.basis.specs.Lists.{tabulate}
 use Rattle.basis.proofs.Case.{then}
 use Rattle.basis.proofs.Lists.{getD-tabulate}
+use Rattle.refusal.specs.declared.Reply.{Reply}
 use Rattle.refusal.specs.declared.Reply.the-variants.{Done}
 use Rattle.record.specs.declared.MotionVector.{MotionVector}
 use Rattle.record.specs.declared.Record.{Record}
@@ -30,14 +31,14 @@ use Rattle.coding.specs.Told.{Quantisable}
 use Rattle.coding.proofs.Levels.{levels-back}
 use Rattle.coding.proofs.Nearness.{all-near}
 use Rattle.macroblock.specs.Request.{Request, source, residual, searchIn, soughtIn, quantisingIn, replyOf}
-use Rattle.macroblock.specs.Answer.{Answer, fourOf, searchedOf, recordAt, answerOf}
+use Rattle.macroblock.specs.Answer.{Answer, fourOf, searchedOf, recordAt, answerBy, answerOf}
 use Rattle.macroblock.specs.Demand.{Demand, handed, sumOver, oneSum, blockSum, coefficientAt, readLevelAt, readInverseAt}
 use Rattle.macroblock.proofs.Answers.{given, done-answer}
 use Rattle.macroblock.proofs.Accepted.{accepted}
 use Rattle.macroblock.proofs.Sums.{one-sums, block-sums}
 
 -- the answer of a call that is not refused, at a rounding type
-abbrev made : ℕ → Request → Answer
+abbrev pub made : ℕ → Request → Answer
 made rounding q = given Done (recordAt rounding q) (areasOf (quantisingIn q) (residual q))
 
 module _ (rounding : ℕ) (q : Request) where
@@ -150,6 +151,10 @@ module _ (rounding : ℕ) (q : Request) where
         dropped = λ second i h none. level-near set second i h .dropped none;
       }
 
+-- of whatever reply let it be coded
+pub demanded-by : (q : Request) (r : Reply) → r ≡ Done → Quantisable (quantisingIn q) → Demand 0 q (answerBy r q)
+demanded-by q r e set = subst (Demand 0 q) (done-answer q r _ _ e refl refl) (made-demanded 0 q set)
+
 -- THE THEOREM
 pub demanded : (q : Request) → replyOf q ≡ Done → Demand 0 q (answerOf q)
-demanded q e = subst (Demand 0 q) (done-answer q _ _ e refl refl) (made-demanded 0 q (accepted q e .quantisable))
+demanded q e = demanded-by q (replyOf q) e (accepted q e .quantisable)

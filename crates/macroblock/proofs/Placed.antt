@@ -5,10 +5,12 @@ use mathlib.Core.Bool.{Bool, _&&_, _||_, not}
 use mathlib.Core.List.{List}
 use mathlib.Core.Path.{_≡_}
 use lib.Dec.{eqb, ltb}
+use lib.ListN.{length}
 use Rattle.refusal.specs.declared.Refusal.the-variants.{Fcode, Mode, BitsPerPixel, ReferenceSize, ReferenceBytes}
-use Rattle.refusal.specs.declared.Refusal.the-variants.{SourceSide, SourcePlane, Quantiser, Weight, Length, Choice}
+use Rattle.refusal.specs.declared.Refusal.the-variants.{SourceSide, SourcePlane, Quantiser, Weight, Length, Choice, RoundingType}
 use Rattle.refusal.specs.declared.Reply.the-variants.{Done}
 use Rattle.refusal.specs.Number.{codeOf}
+use Rattle.refusal.specs.Reply.{unless}
 use Rattle.refusal.specs.Test.{between}
 use Rattle.refusal.proofs.Others.{Other, unless-other, and-then-other, done-other}
 use Rattle.plane.specs.declared.Geometry.{Geometry}
@@ -16,10 +18,15 @@ use Rattle.plane.specs.declared.SourceSize.{SourceSize}
 use Rattle.plane.specs.declared.MacroblockPlace.{MacroblockPlace}
 use Rattle.plane.specs.Reference.{sized, referenceSizeReply, referenceBytesReply, referenceReply}
 use Rattle.plane.specs.Source.{chromaSize, sourceSideReply, holds, placeReply, sourceReply}
+use Rattle.prediction.specs.declared.PlaneLengths.{PlaneLengths}
+use Rattle.prediction.specs.declared.ReferenceGeometry.{ReferenceGeometry}
+use Rattle.prediction.specs.Luma.{roundingReply}
+use Rattle.prediction.specs.Planes.{chromaGeometry, lengthsIn, planesReply}
 use Rattle.quantise.specs.Block.{noZero, weightReply}
 use Rattle.search.specs.Request.{settingsReply}
 use Rattle.macroblock.specs.declared.Lengths.{Lengths}
-use Rattle.macroblock.specs.Request.{Request, lengthsReply, choiceReply, requestReply, lengthsOf, replyOf}
+use Rattle.macroblock.specs.Request.{Request, areasLong, lengthsReply, choiceReply, requestReply, lengthsOf, replyOf}
+use Rattle.macroblock.specs.Predicted.{PredictedRequest, predictedReply, predictedReplyOf}
 
 -- the groups of a request's list
 
@@ -30,12 +37,18 @@ settings-other fcode mode bpp =
     (unless-other (eqb mode 0 || eqb mode 1) Mode (λ e. omega arith)
     (unless-other (eqb mode 0 || between 1 8 bpp) BitsPerPixel (λ e. omega arith) (done-other (omega arith))))
 
+size-other : (g : Geometry) → Other 8 (referenceSizeReply g)
+unfolding referenceSizeReply
+size-other g = unless-other (sized g) ReferenceSize (λ e. omega arith) (done-other (omega arith))
+
+bytes-other : (g : Geometry) (bytes : ℕ) → Other 8 (referenceBytesReply g bytes)
+unfolding referenceBytesReply
+bytes-other g bytes =
+    unless-other (ltb ((g .height - 1) * g .stride + (g .width - 1)) bytes) ReferenceBytes (λ e. omega arith) (done-other (omega arith))
+
 reference-other : (g : Geometry) (bytes : ℕ) → Other 8 (referenceReply g bytes)
-unfolding referenceReply referenceSizeReply referenceBytesReply
-reference-other g bytes =
-    and-then-other _
-    (unless-other (sized g) ReferenceSize (λ e. omega arith) (done-other (omega arith)))
-    (unless-other (ltb ((g .height - 1) * g .stride + (g .width - 1)) bytes) ReferenceBytes (λ e. omega arith) (done-other (omega arith)))
+unfolding referenceReply
+reference-other g bytes = and-then-other _ (size-other g) (bytes-other g bytes)
 
 source-other : (s : SourceSize) (y cb cr : ℕ) (at : MacroblockPlace) → placeReply s at ≡ Done → Other 8 (sourceReply s y cb cr at)
 unfolding sourceReply sourceSideReply
@@ -72,4 +85,33 @@ never-8 q e =
     (and-then-other _ (source-other (q .size) _ _ _ (q .place) e)
     (and-then-other _ (weight-other (q .settings .quantiser) (q .settings .«first_method») (q .weights))
     (and-then-other _ (lengths-other (lengthsOf q)) (choice-other (q .settings .vectors) (q .settings .scan))))))
+    .is-not
+
+-- ---- the same where the prediction is made here
+
+planes-other : (g : ReferenceGeometry) (n : PlaneLengths) → Other 8 (planesReply g n)
+unfolding planesReply
+planes-other g n =
+    and-then-other _ (size-other (g .luma))
+    (and-then-other _ (size-other (chromaGeometry g))
+    (and-then-other _ (bytes-other (g .luma) (n .y))
+    (and-then-other _ (bytes-other (chromaGeometry g) (n .cb)) (bytes-other (chromaGeometry g) (n .cr)))))
+
+areas-other : (weights lasts runs levels : ℕ) → Other 8 (unless (areasLong weights lasts runs levels) Length Done)
+areas-other weights lasts runs levels =
+    unless-other (areasLong weights lasts runs levels) Length (λ e. omega arith) (done-other (omega arith))
+
+rounding-other : (rounding : ℕ) → Other 8 (roundingReply rounding)
+unfolding roundingReply
+rounding-other rounding = unless-other (between 0 1 rounding) RoundingType (λ e. omega arith) (done-other (omega arith))
+
+pub predicted-never-8 : (n : PredictedRequest) → placeReply (n .size) (n .place) ≡ Done → codeOf (predictedReplyOf n) ≡ 8 → ⊥
+unfolding predictedReply
+predicted-never-8 n e =
+    and-then-other _ (settings-other (n .settings .fcode) (n .settings .mode) (n .settings .bpp))
+    (and-then-other _ (planes-other (n .geometry) (lengthsIn (n .reference)))
+    (and-then-other _ (source-other (n .size) _ _ _ (n .place) e)
+    (and-then-other _ (weight-other (n .settings .quantiser) (n .settings .«first_method») (n .weights))
+    (and-then-other _ (areas-other (length (n .weights)) (length (n .areas .lasts)) (length (n .areas .runs)) (length (n .areas .levels)))
+    (and-then-other _ (choice-other (n .settings .vectors) (n .settings .scan)) (rounding-other (n .rounding)))))))
     .is-not

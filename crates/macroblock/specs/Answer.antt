@@ -5,6 +5,7 @@ use mathlib.Core.List.{List}
 use lib.Dec.{eqb}
 use lib.IntN.{ℤ}
 use lib.ListN.{replicate}
+use Rattle.refusal.specs.declared.Reply.{Reply}
 use Rattle.refusal.specs.Reply.{done}
 use Rattle.record.specs.declared.Record.{Record}
 use Rattle.record.specs.Zero.{zeroVector, noRecord}
@@ -32,11 +33,9 @@ searchedOf vectors s b =
       sums = cond (eqb vectors 4) (fourOf s b .sums) (replicate 4 0);
     }
 
--- the record of a search at a rounding type
-unfoldable pub recordAt : ℕ → Request → Record
-recordAt rounding q =
-    let found = searchedOf (q .settings .vectors) (searchIn rounding (q .settings)) (soughtIn q) in
-    let counts = countsOf (quantisingIn q) (residual q) in
+-- of what was found and how many events each block has
+abbrev pub recordWith : Searched → List ℕ → Record
+recordWith found counts =
     record {
       vector = found .vector;
       sum = found .sum;
@@ -46,6 +45,11 @@ recordAt rounding q =
       «chroma_pattern» = chromaPattern counts;
       counts = counts;
     }
+
+-- the record of a search at a rounding type
+unfoldable pub recordAt : ℕ → Request → Record
+recordAt rounding q =
+    recordWith (searchedOf (q .settings .vectors) (searchIn rounding (q .settings)) (soughtIn q)) (countsOf (quantisingIn q) (residual q))
 
 -- the entry searches at rounding type 0
 abbrev pub recordOf : Request → Record
@@ -59,10 +63,13 @@ pub record Answer : Type 0 where
 abbrev pub answered : Coded → List ℕ → List ℕ → List ℤ → Answer
 answered coded lasts runs levels = record { coded = coded; areas = areas lasts runs levels }
 
--- refused, the record is all 0 and the areas are as they were
-unfoldable pub answerOf : Request → Answer
-answerOf q =
+-- by the reply: refused, the record is all 0 and the areas are as they were
+unfoldable pub answerBy : Reply → Request → Answer
+answerBy reply q =
     record {
-      coded = record { reply = replyOf q; «record» = done (replyOf q) (recordOf q) noRecord };
-      areas = done (replyOf q) (areasOf (quantisingIn q) (residual q)) (q .areas);
+      coded = record { reply = reply; «record» = done reply (recordOf q) noRecord };
+      areas = done reply (areasOf (quantisingIn q) (residual q)) (q .areas);
     }
+
+abbrev pub answerOf : Request → Answer
+answerOf q = answerBy (replyOf q) q

@@ -1,6 +1,6 @@
 -- A call's arguments as one value, and what turns it back, in its order (rules O1 to O6): 1 2 3 4 5 6 7 8 10 11 12 14.
 use Prim.Native.Nat.{ℕ}
-use mathlib.Core.Bool.{_&&_}
+use mathlib.Core.Bool.{Bool, _&&_}
 use mathlib.Core.List.{List}
 use lib.Dec.{eqb}
 use lib.IntN.{ℤ}
@@ -24,7 +24,8 @@ use Rattle.full_search.specs.Block.{Block}
 use Rattle.search.specs.declared.SearchSettings.{SearchSettings}
 use Rattle.search.specs.Request.{settingsOf, macroblock, settingsReply}
 use Rattle.reader.specs.Handed.{Areas, areas}
-use Rattle.coding.specs.Residual.{Samples, samples, sourceOf, residualOf}
+use Rattle.plane.specs.Samples.{Samples, samples}
+use Rattle.coding.specs.Residual.{sourceOf, residualOf}
 use Rattle.coding.specs.Coding.{Quantising, quantisingOf}
 use Rattle.macroblock.specs.declared.Settings.{Settings}
 use Rattle.macroblock.specs.declared.Lengths.{Lengths}
@@ -88,12 +89,15 @@ quantisingIn q = quantisingOf (q .settings .quantiser) (q .settings .«first_met
 
 -- ---- refusals
 
--- 12: prediction not 256, 64, 64; matrix not 64, under either method; an area not 64 per block
+-- a matrix of 64, under either method, and areas of 64 per block
+abbrev pub areasLong : ℕ → ℕ → ℕ → ℕ → Bool
+areasLong weights lasts runs levels = eqb weights 64 && (eqb lasts 384 && (eqb runs 384 && eqb levels 384))
+
+-- 12: prediction not 256, 64, 64; matrix or an area not as long as it has to be
 unfoldable pub lengthsReply : Lengths → Reply
 lengthsReply n =
     let prediction = eqb (n .«pred_y») 256 && (eqb (n .«pred_cb») 64 && eqb (n .«pred_cr») 64) in
-    let areas = eqb (n .lasts) 384 && (eqb (n .runs) 384 && eqb (n .levels) 384) in
-    unless (prediction && (eqb (n .weights) 64 && areas)) Length Done
+    unless (prediction && areasLong (n .weights) (n .lasts) (n .runs) (n .levels)) Length Done
 
 -- 14: vector count not 1 or 4; scan number not 0..2
 unfoldable pub choiceReply : ℕ → ℕ → Reply

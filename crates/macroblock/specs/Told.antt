@@ -3,7 +3,7 @@ use Prim.Native.Nat.{ℕ}
 use mathlib.Core.Path.{_≡_}
 use Rattle.plane.specs.declared.SourceSize.{SourceSize}
 use Rattle.plane.specs.declared.MacroblockPlace.{MacroblockPlace}
-use Rattle.coding.specs.Residual.{Samples}
+use Rattle.plane.specs.Samples.{Samples}
 use Rattle.coding.specs.Coding.{Quantising}
 use Rattle.coding.specs.Told.{Quantisable, ResidualAccepted}
 

@@ -5,10 +5,11 @@ ghost use Rattle.refusal.specs.declared.Reply.the-variants.{Done};
 ghost use Rattle.plane.specs.Plane.{planeOf};
 ghost use Rattle.search.specs.Request.{searchRequest, macroblock, searchReply};
 ghost use Rattle.reader.specs.Handed.{areas};
-ghost use Rattle.coding.specs.Residual.{samples, sourceOf, residualOf};
+ghost use Rattle.plane.specs.Samples.{samples};
+ghost use Rattle.coding.specs.Residual.{sourceOf, residualOf};
 ghost use Rattle.coding.specs.Coding.{quantisingOf, countsOf, areasOf};
 ghost use Rattle.macroblock.specs.Request.{request, residual, searchIn, quantisingIn, replyOf};
-ghost use Rattle.macroblock.specs.Answer.{searchedOf, recordOf};
+ghost use Rattle.macroblock.specs.Answer.{searchedOf, recordWith, recordOf};
 ghost use Rattle.macroblock.specs.Told.{CodingNeeds};
 use crate::Searched;
 use crate::Settings;
@@ -18,7 +19,7 @@ use plane::SourceSize;
 use record::Record;
 
 // The one vector, and the four around it where they are wanted.
-fn search_vectors(
+pub fn search_vectors(
     settings: Settings,
     y: &[u8],
     size: SourceSize,
@@ -73,7 +74,7 @@ fn search_vectors(
 
 // The events of source less prediction, and how many each of the six blocks has. `marks` tells which event is its block's last,
 // `zero_runs` how many zeros stand before each.
-fn code_residual(
+pub fn code_residual(
     settings: Settings,
     y: &[u8],
     cb: &[u8],
@@ -130,6 +131,25 @@ fn code_residual(
     counted.counts
 }
 
+// The record of what was found and how many events each block has.
+pub fn record_with(found: Searched, counts: [u8; 6]) -> Record
+    ensures { λ r. ⌜ r ≡ recordWith found counts ⌝ }
+{
+    let patterns = coding::inter_cbp(counts);
+    let vector = found.vector;
+    let vectors = found.vectors;
+    let sums = found.sums;
+    Record {
+        vector,
+        sum: found.sum,
+        vectors,
+        sums,
+        luma_pattern: patterns.luma,
+        chroma_pattern: patterns.chroma,
+        counts,
+    }
+}
+
 // The record, with the events in the three areas.
 pub fn code_ready(
     settings: Settings,
@@ -177,17 +197,5 @@ pub fn code_ready(
         runs,
         levels,
     );
-    let patterns = coding::inter_cbp(counts);
-    let vector = found.vector;
-    let vectors = found.vectors;
-    let sums = found.sums;
-    Record {
-        vector,
-        sum: found.sum,
-        vectors,
-        sums,
-        luma_pattern: patterns.luma,
-        chroma_pattern: patterns.chroma,
-        counts,
-    }
+    record_with(found, counts)
 }

@@ -18,9 +18,10 @@ use Rattle.plane.proofs.ReadySource.{sides-are}
 use Rattle.reader.specs.Handed.{Areas}
 use Rattle.macroblock.specs.Request.{Request}
 use Rattle.macroblock.specs.Answer.{Answer, answerOf}
+use Rattle.macroblock.specs.Predicted.{PredictedRequest, predictedAnswerOf}
 use Rattle.picture.specs.declared.Run.{Run}
-use Rattle.picture.specs.Run.{macroblocksIn, freshRun, runReply, after, unlessRun, stepAnswer, stepOf}
-use Rattle.picture.specs.Calls.{Call, Step, Close, asked, runAfter, recordsGiven, eventsOver, sumsOver, InTypes, Totalled}
+use Rattle.picture.specs.Run.{macroblocksIn, freshRun, runReply, after, unlessRun, stepAnswer, stepOf, predictedStepAnswer, predictedStepOf}
+use Rattle.picture.specs.Calls.{Call, Step, StepPredicted, Close, asked, predictedAsked, runAfter, recordsGiven, eventsOver, sumsOver, InTypes, Totalled}
 use Rattle.picture.proofs.Places.{let-through}
 
 -- ---- a run whose numbers lie in their types, and which counts no more macroblocks than cover its picture
@@ -81,8 +82,9 @@ run-done : (w : Reply) (a : Answer) (old : Areas) → unlessRun w a old .coded .
 run-done Done a old e = refl
 run-done (Refused why) a old e = not-done why e
 
-step-left : (r : Run) (q : Request) → stepAnswer r q .coded .reply ≡ Done → r .macroblocks < macroblocksIn (r .size)
-step-left r q e = let-through r (q .size) (run-done (runReply r (q .size)) (answerOf q) (q .areas) e) .left
+step-left : (r : Run) (size : SourceSize) (a : Answer) (old : Areas) → unlessRun (runReply r size) a old .coded .reply ≡ Done
+    → r .macroblocks < macroblocksIn (r .size)
+step-left r size a old e = let-through r size (run-done (runReply r size) a old e) .left
 
 -- one step more, by its reply and its record
 abbrev run-by : Run → Reply → Record → Run
@@ -95,11 +97,14 @@ adds-step r cs m Done f h more = adds-more r _ _ m f (h refl) (more (after r m) 
 adds-step r cs m (Refused why) f h more = more r f
 
 adds : (cs : List Call) (r : Run) → Fitting r → Adds r (runAfter r cs) (recordsGiven r cs)
-unfolding stepOf
+unfolding stepOf predictedStepOf
 adds [] r f = adds-none r f
 adds (Step q ∷ cs) r f =
     let a = stepAnswer r (asked r q) in
-    adds-step r cs (a .coded .«record») (a .coded .reply) f (step-left r (asked r q)) (adds cs)
+    adds-step r cs (a .coded .«record») (a .coded .reply) f (step-left r (q .size) (answerOf (asked r q)) (q .areas)) (adds cs)
+adds (StepPredicted n ∷ cs) r f =
+    let a = predictedStepAnswer r (predictedAsked r n) in
+    adds-step r cs (a .coded .«record») (a .coded .reply) f (step-left r (n .size) (predictedAnswerOf (predictedAsked r n)) (n .areas)) (adds cs)
 adds (Close ∷ cs) r f = adds cs r f
 
 -- ---- from an opening on nothing wraps

@@ -18,12 +18,13 @@ use Rattle.plane.specs.declared.SourceSize.{SourceSize}
 use Rattle.plane.specs.declared.MacroblockPlace.{MacroblockPlace}
 use Rattle.reader.specs.Handed.{Areas}
 use Rattle.macroblock.specs.Request.{Request}
-use Rattle.macroblock.specs.Answer.{Answer, answerOf}
+use Rattle.macroblock.specs.Answer.{Answer, answerBy, answerOf}
 use Rattle.macroblock.specs.Demand.{Demand}
-use Rattle.macroblock.proofs.Placed.{never-8}
+use Rattle.macroblock.specs.Predicted.{PredictedRequest, PredictedDemand, predictedAnswerOf}
+use Rattle.macroblock.proofs.Placed.{never-8, predicted-never-8}
 use Rattle.picture.specs.declared.Run.{Run}
-use Rattle.picture.specs.Run.{macroblocksIn, nextPlace, runReply, after, unlessRun, StepAnswer, stepOf}
-use Rattle.picture.specs.Calls.{placed, asked}
+use Rattle.picture.specs.Run.{macroblocksIn, nextPlace, runReply, after, unlessRun, StepAnswer, stepTo, stepOf, predictedStepOf}
+use Rattle.picture.specs.Calls.{placed, asked, predictedAt, predictedAsked}
 use Rattle.picture.proofs.Places.{step-inside}
 
 -- ---- an answer, and the run after it
@@ -31,29 +32,46 @@ use Rattle.picture.proofs.Places.{step-inside}
 abbrev pub with-run : Answer → Run → StepAnswer
 with-run a n = record { answer = a; run = n }
 
-abbrev moved : Run → Answer → StepAnswer
-moved r a = with-run a (done (a .coded .reply) (after r (a .coded .«record»)) r)
-
-by-reply : (r : Run) (q : Request) (w : Reply) → runReply r (q .size) ≡ w → moved r (unlessRun w (answerOf q) (q .areas)) ≡ stepOf r q
-unfolding stepOf
-by-reply r q w e = ap (λ (x : Reply). moved r (unlessRun x (answerOf q) (q .areas))) (sym e)
-
 abbrev turned : Refusal → Record → Areas → Answer
 turned why g old = record { coded = record { reply = Refused why; «record» = g }; areas = old }
 
--- turned back because of the run
+-- of either entry: a picture's sizes, what the entry answers, and the areas as they were
+module _ (r : Run) (size : SourceSize) (a : Answer) (old : Areas) where
+  abbrev stepped : StepAnswer
+  stepped = stepTo r (unlessRun (runReply r size) a old)
+
+  by-reply : (w : Reply) → runReply r size ≡ w → stepTo r (unlessRun w a old) ≡ stepped
+  by-reply w e = ap (λ (x : Reply). stepTo r (unlessRun x a old)) (sym e)
+
+  -- turned back because of the run
+  turned-by : (why : Refusal) (g : Record) → runReply r size ≡ Refused why → g ≡ noRecord → with-run (turned why g old) r ≡ stepped
+  turned-by why g e p = ap (λ (x : Record). with-run (turned why x old) r) p ∙ by-reply (Refused why) e
+
+  -- answered by the entry
+  coded-by : (b : Answer) (n : Run) → runReply r size ≡ Done → b ≡ a
+      → n ≡ done (b .coded .reply) (after r (b .coded .«record»)) r → with-run b n ≡ stepped
+  coded-by b n e p m = ap (with-run b) m ∙ ap (stepTo r) p ∙ by-reply Done e
+
 pub turned-back : (r : Run) (q : Request) (why : Refusal) (g : Record) → runReply r (q .size) ≡ Refused why → g ≡ noRecord
     → with-run (turned why g (q .areas)) r ≡ stepOf r q
-turned-back r q why g e p = ap (λ (x : Record). with-run (turned why x (q .areas)) r) p ∙ by-reply r q (Refused why) e
+unfolding stepOf
+turned-back r q why g e p = turned-by r (q .size) (answerOf q) (q .areas) why g e p
 
--- answered by the entry
-pub coded : (r : Run) (q : Request) (a : Answer) (n : Run) → runReply r (q .size) ≡ Done → a ≡ answerOf q
-    → n ≡ done (a .coded .reply) (after r (a .coded .«record»)) r → with-run a n ≡ stepOf r q
-coded r q a n e p m = ap (with-run a) m ∙ ap (moved r) p ∙ by-reply r q Done e
+pub predicted-turned-back : (r : Run) (n : PredictedRequest) (why : Refusal) (g : Record) → runReply r (n .size) ≡ Refused why
+    → g ≡ noRecord → with-run (turned why g (n .areas)) r ≡ predictedStepOf r n
+unfolding predictedStepOf
+predicted-turned-back r n why g e p = turned-by r (n .size) (predictedAnswerOf n) (n .areas) why g e p
 
 -- For the reader: a step that the run lets through is the entry's answer at the run's next place
 pub step-coded : (r : Run) (q : Request) → runReply r (q .size) ≡ Done → stepOf r (asked r q) .answer ≡ answerOf (asked r q)
-step-coded r q e = ap (λ (a : StepAnswer). a .answer) (sym (by-reply r (asked r q) Done e))
+unfolding stepOf
+step-coded r q e = ap (λ (a : StepAnswer). a .answer) (sym (by-reply r (q .size) (answerOf (asked r q)) (q .areas) Done e))
+
+pub predicted-step-coded : (r : Run) (n : PredictedRequest) → runReply r (n .size) ≡ Done
+    → predictedStepOf r (predictedAsked r n) .answer ≡ predictedAnswerOf (predictedAsked r n)
+unfolding predictedStepOf
+predicted-step-coded r n e =
+    ap (λ (a : StepAnswer). a .answer) (sym (by-reply r (n .size) (predictedAnswerOf (predictedAsked r n)) (n .areas) Done e))
 
 -- 21 and 22 are other numbers than 8
 run-other : (r : Run) (s : SourceSize) → Other 8 (runReply r s)
@@ -63,23 +81,48 @@ run-other r s =
     unless-other (ltb (r .macroblocks) (macroblocksIn (r .size))) AfterLast (λ e. omega arith)
     (unless-other same OtherSize (λ e. omega arith) (done-other (omega arith)))
 
+-- an answer that is never 8 where the run lets the step through is never 8
+never-by : (r : Run) (size : SourceSize) (a : Answer) (old : Areas) → (runReply r size ≡ Done → codeOf (a .coded .reply) ≡ 8 → ⊥)
+    → codeOf (unlessRun (runReply r size) a old .coded .reply) ≡ 8 → ⊥
+never-by r size a old f = by (runReply r size) refl
+  where
+    by : (w : Reply) → runReply r size ≡ w → codeOf (unlessRun w a old .coded .reply) ≡ 8 → ⊥
+    by Done e h = f e h
+    by (Refused why) e h = run-other r size .is-not (ap codeOf e ∙ h)
+
 -- For the reader: 8 is never a step's reply
 pub step-never-8 : (r : Run) (q : Request) → codeOf (stepOf r (asked r q) .answer .coded .reply) ≡ 8 → ⊥
-unfolding stepOf answerOf
-step-never-8 r q = by (runReply r (q .size)) refl
-  where
-    by : (w : Reply) → runReply r (q .size) ≡ w → codeOf (unlessRun w (answerOf (asked r q)) (q .areas) .coded .reply) ≡ 8 → ⊥
-    by Done e h = never-8 (asked r q) (step-inside r (q .size) e) h
-    by (Refused why) e h = run-other r (q .size) .is-not (ap codeOf e ∙ h)
+unfolding stepOf answerBy
+step-never-8 r q = never-by r (q .size) (answerOf (asked r q)) (q .areas) (λ e h. never-8 (asked r q) (step-inside r (q .size) e) h)
+
+pub predicted-step-never-8 : (r : Run) (n : PredictedRequest)
+    → codeOf (predictedStepOf r (predictedAsked r n) .answer .coded .reply) ≡ 8 → ⊥
+unfolding predictedStepOf answerBy
+predicted-step-never-8 r n =
+    never-by r (n .size) (predictedAnswerOf (predictedAsked r n)) (n .areas)
+    (λ e h. predicted-never-8 (predictedAsked r n) (step-inside r (n .size) e) h)
 
 -- the entry's promise at a place that is the run's next, as a step's
 pub promised : (r : Run) (q : Request) (at : MacroblockPlace) (a : Answer) (n : Run) → runReply r (q .size) ≡ Done → at ≡ nextPlace r
     → (a ≡ answerOf (placed at q)) × (a .coded .reply ≡ Done → Demand 0 (placed at q) a)
     → n ≡ done (a .coded .reply) (after r (a .coded .«record»)) r
     → (with-run a n ≡ stepOf r (asked r q)) × (a .coded .reply ≡ Done → Demand 0 (asked r q) a)
+unfolding stepOf
 promised r q at a n e p t m = (
-  coded r (asked r q) a n e (t .0 ∙ ap (λ (x : MacroblockPlace). answerOf (placed x q)) p) m,
+  coded-by r (q .size) (answerOf (asked r q)) (q .areas) a n e (t .0 ∙ ap (λ (x : MacroblockPlace). answerOf (placed x q)) p) m,
   λ d. subst (λ (x : MacroblockPlace). Demand 0 (placed x q) a) p (t .1 d),
+)
+
+pub predicted-promised : (r : Run) (q : PredictedRequest) (at : MacroblockPlace) (a : Answer) (n : Run) → runReply r (q .size) ≡ Done
+    → at ≡ nextPlace r
+    → (a ≡ predictedAnswerOf (predictedAt at q)) × (a .coded .reply ≡ Done → PredictedDemand (predictedAt at q) a)
+    → n ≡ done (a .coded .reply) (after r (a .coded .«record»)) r
+    → (with-run a n ≡ predictedStepOf r (predictedAsked r q)) × (a .coded .reply ≡ Done → PredictedDemand (predictedAsked r q) a)
+unfolding predictedStepOf
+predicted-promised r q at a n e p t m = (
+  coded-by r (q .size) (predictedAnswerOf (predictedAsked r q)) (q .areas) a n e
+      (t .0 ∙ ap (λ (x : MacroblockPlace). predictedAnswerOf (predictedAt x q)) p) m,
+  λ d. subst (λ (x : MacroblockPlace). PredictedDemand (predictedAt x q) a) p (t .1 d),
 )
 
 -- ---- the run with one record more

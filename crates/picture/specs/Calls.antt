@@ -8,9 +8,11 @@ use Rattle.record.specs.declared.Record.{Record}
 use Rattle.record.specs.Count.{eventsIn}
 use Rattle.plane.specs.declared.SourceSize.{SourceSize}
 use Rattle.plane.specs.declared.MacroblockPlace.{MacroblockPlace}
+use Rattle.macroblock.specs.Answer.{Answer}
+use Rattle.macroblock.specs.Predicted.{PredictedRequest}
 use Rattle.macroblock.specs.Request.{Request}
 use Rattle.picture.specs.declared.Run.{Run}
-use Rattle.picture.specs.Run.{freshRun, nextPlace, stepAnswer, stepOf}
+use Rattle.picture.specs.Run.{freshRun, nextPlace, stepAnswer, stepOf, predictedStepAnswer, predictedStepOf}
 
 -- a request, at another place
 abbrev pub placed : MacroblockPlace → Request → Request
@@ -29,29 +31,50 @@ placed at q =
       areas = q .areas;
     }
 
--- a step, of whose request the place is the run's own; closing, which changes nothing
+abbrev pub predictedAt : MacroblockPlace → PredictedRequest → PredictedRequest
+predictedAt at n =
+    record {
+      settings = n .settings;
+      rounding = n .rounding;
+      reference = n .reference;
+      geometry = n .geometry;
+      source = n .source;
+      size = n .size;
+      place = at;
+      weights = n .weights;
+      areas = n .areas;
+    }
+
+-- a step of either kind, of whose request the place is the run's own; closing, which changes nothing
 pub data Call : Type 0 where
   Step : Request → Call
+  StepPredicted : PredictedRequest → Call
   Close : Call
 
 -- the request of a step
 abbrev pub asked : Run → Request → Request
 asked r q = placed (nextPlace r) q
 
+abbrev pub predictedAsked : Run → PredictedRequest → PredictedRequest
+predictedAsked r n = predictedAt (nextPlace r) n
+
 -- the run after the calls
 abbrev pub runAfter : Run → List Call → Run
 runAfter r [] = r
 runAfter r (Step q ∷ cs) = runAfter (stepOf r (asked r q) .run) cs
+runAfter r (StepPredicted n ∷ cs) = runAfter (predictedStepOf r (predictedAsked r n) .run) cs
 runAfter r (Close ∷ cs) = runAfter r cs
 
--- the record of a step that is not refused, before others
-abbrev pub given : Run → Request → List Record → List Record
-given r q ms = let a = stepAnswer r (asked r q) in done (a .coded .reply) (a .coded .«record» ∷ ms) ms
+-- the record of an answer that is not a refusal, before others
+abbrev pub given : Answer → List Record → List Record
+given a ms = done (a .coded .reply) (a .coded .«record» ∷ ms) ms
 
 -- the records given
 abbrev pub recordsGiven : Run → List Call → List Record
 recordsGiven r [] = []
-recordsGiven r (Step q ∷ cs) = given r q (recordsGiven (stepOf r (asked r q) .run) cs)
+recordsGiven r (Step q ∷ cs) = given (stepAnswer r (asked r q)) (recordsGiven (stepOf r (asked r q) .run) cs)
+recordsGiven r (StepPredicted n ∷ cs) =
+    given (predictedStepAnswer r (predictedAsked r n)) (recordsGiven (predictedStepOf r (predictedAsked r n) .run) cs)
 recordsGiven r (Close ∷ cs) = recordsGiven r cs
 
 abbrev pub eventsOver : List Record → ℕ

@@ -18,6 +18,7 @@ use Rattle.plane.specs.Source.{macroblocksOf, sourceSideReply}
 use Rattle.reader.specs.Handed.{Areas, areas}
 use Rattle.macroblock.specs.Request.{Request}
 use Rattle.macroblock.specs.Answer.{Answer, answerOf}
+use Rattle.macroblock.specs.Predicted.{PredictedRequest, predictedAnswerOf}
 use Rattle.picture.specs.declared.Run.{Run}
 use Rattle.picture.specs.declared.Opened.{Opened}
 use Rattle.picture.specs.declared.Stepped.{Stepped}
@@ -84,15 +85,23 @@ steppedTo s lasts runs levels =
       run = s .run;
     }
 
+-- after an answer; refused, the run is as it went in
+abbrev pub stepTo : Run → Answer → StepAnswer
+stepTo r a = record { answer = a; run = done (a .coded .reply) (after r (a .coded .«record»)) r }
+
 -- the answer to a request for the run's next place
 abbrev pub stepAnswer : Run → Request → Answer
 stepAnswer r q = unlessRun (runReply r (q .size)) (answerOf q) (q .areas)
 
--- refused, the run is as it went in
 unfoldable pub stepOf : Run → Request → StepAnswer
-stepOf r q =
-    let a = stepAnswer r q in
-    record { answer = a; run = done (a .coded .reply) (after r (a .coded .«record»)) r }
+stepOf r q = stepTo r (stepAnswer r q)
+
+-- and to one whose prediction is made here
+abbrev pub predictedStepAnswer : Run → PredictedRequest → Answer
+predictedStepAnswer r n = unlessRun (runReply r (n .size)) (predictedAnswerOf n) (n .areas)
+
+unfoldable pub predictedStepOf : Run → PredictedRequest → StepAnswer
+predictedStepOf r n = stepTo r (predictedStepAnswer r n)
 
 -- ---- closing
 

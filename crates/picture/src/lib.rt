@@ -6,11 +6,13 @@ ghost use Rattle.refusal.specs.declared.Reply.the-variants.{Done};
 ghost use Rattle.refusal.specs.Reply.{done};
 ghost use Rattle.macroblock.specs.Request.{request};
 ghost use Rattle.macroblock.specs.Demand.{Demand};
-ghost use Rattle.picture.specs.Run.{macroblocksIn, freshRun, openOf, nextPlace, runReply, after, steppedTo, stepOf, closeOf};
+ghost use Rattle.macroblock.specs.Predicted.{predictedRequest, PredictedDemand};
+ghost use Rattle.picture.specs.Run.{macroblocksIn, freshRun, openOf, nextPlace, runReply, after, steppedTo, stepOf, predictedStepOf, closeOf};
 use macroblock::Settings;
 use plane::Geometry;
 use plane::MacroblockPlace;
 use plane::SourceSize;
+use prediction::ReferenceGeometry;
 use record::Record;
 use refusal::Refusal;
 use refusal::Reply;
@@ -218,6 +220,74 @@ pub fn step(
             Stepped {
                 reply,
                 run: next,
+                record,
+            }
+        }
+    }
+}
+
+// Searches for the next macroblock, predicts it by the vectors found and codes it: 21, 22, then as `macroblock::code_predicted_macroblock`,
+// whose answer it is. Refused, the run is as it went in, and so are the areas. Where it is not refused, demand 3 holds of the answer, and
+// what is coded against is what the reader gets.
+pub fn step_predicted(
+    run: Run,
+    settings: Settings,
+    rounding: u8,
+    reference_y: &[u8],
+    reference_cb: &[u8],
+    reference_cr: &[u8],
+    geometry: ReferenceGeometry,
+    y: &[u8],
+    cb: &[u8],
+    cr: &[u8],
+    size: SourceSize,
+    weights: &[u8],
+    lasts: &mut [u8],
+    runs: &mut [u8],
+    levels: &mut [i32],
+) -> Stepped
+    ensures { λ r. ⌜ (
+        let n = predictedRequest settings rounding (now («reference_y» .entry)) (now («reference_cb» .entry)) (now («reference_cr» .entry)) geometry
+        (now (y .entry)) (now (cb .entry)) (now (cr .entry)) size (nextPlace run) (now (weights .entry))
+        (now (lasts .entry)) (now (runs .entry)) (now (levels .entry)) in
+        let a = steppedTo r (now (lasts .exit)) (now (runs .exit)) (now (levels .exit)) in
+        (a ≡ predictedStepOf run n) × (r .reply ≡ Done → PredictedDemand n (a .answer))
+        ) ⌝ }
+{
+    match run_reply(run, size) {
+        Reply::Refused(why) => {
+            let none = record::no_record();
+            Stepped {
+                reply: Reply::Refused(why),
+                run,
+                record: none,
+            }
+        }
+        Reply::Done => {
+            let place = next_place(run);
+            let coded = macroblock::code_predicted_macroblock(
+                settings,
+                rounding,
+                reference_y,
+                reference_cb,
+                reference_cr,
+                geometry,
+                y,
+                cb,
+                cr,
+                size,
+                place,
+                weights,
+                lasts,
+                runs,
+                levels,
+            );
+            let reply = coded.reply;
+            let record = coded.record;
+            let further = next_run(run, reply, record);
+            Stepped {
+                reply,
+                run: further,
                 record,
             }
         }

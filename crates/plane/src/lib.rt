@@ -187,7 +187,8 @@ fn origin_in_range(origin: Point) -> bool
     )
 }
 
-fn vector_in_range(vector: MotionVector) -> bool
+// Both parts in -2,048..2,047.
+pub fn vector_in_range(vector: MotionVector) -> bool
     ensures { λ r. ⌜ r ≡ vectorInRange vector ⌝ }
 {
     refusal::both(

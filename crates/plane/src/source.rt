@@ -13,7 +13,8 @@ use crate::SourceSize;
 use refusal::Refusal;
 use refusal::Reply;
 
-fn halved(n: usize) -> usize
+// A chroma side: half the luma side, rounded up.
+pub fn halved(n: usize) -> usize
     ensures { λ r. ⌜ r ≡ halved n ⌝ }
 {
     n / 2 + n % 2

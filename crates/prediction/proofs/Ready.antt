@@ -22,14 +22,14 @@ use Rattle.prediction.specs.declared.BVopSampleMode.{BVopSampleMode}
 use Rattle.prediction.specs.declared.BVopSampleMode.the-variants.{HalfPel, QuarterPel}
 use Rattle.prediction.specs.declared.PvopMbMotion.{PvopMbMotion}
 use Rattle.prediction.specs.declared.PvopMbMotion.the-variants.{FourMv}
-use Rattle.prediction.specs.Luma.{predictReply}
+use Rattle.prediction.specs.Luma.{interpolationReply, roundingReply}
 use Rattle.prediction.specs.Macroblock.{modeReply, motionsReply, macroblockReply}
 use Rattle.prediction.specs.ToldFour.{FourReady}
 
 -- a block whose parts are in range
 pub luma-done : (m : BVopSampleMode) (g : Geometry) (bytes : ℕ) (v : MotionVector) (site : Site) (area : ℕ) → modeReply m ≡ Done
     → referenceReply g bytes ≡ Done → motionReply v (site .corner) ≡ Done → area ≡ site .width * site .height
-    → isSide (site .width) ≡ true → isSide (site .height) ≡ true → predictReply m g bytes v site area ≡ Done
+    → isSide (site .width) ≡ true → isSide (site .height) ≡ true → interpolationReply m g bytes v site area ≡ Done
 luma-done HalfPel g bytes v site area b e f k p q = block-done g bytes v site area e f k p q
 luma-done (QuarterPel bpp) g bytes v site area b e f k p q =
     quarter-done bpp g bytes v site area b (block-done g bytes v site area e f k p q)
@@ -45,19 +45,21 @@ pub record MacroblockReady (m : BVopSampleMode) (g : Geometry) (bytes : ℕ) (v 
   pub motions : motionsReply v corner ≡ Done
   pub fits : area ≡ 256
 
-pub macroblock-ready : (m : BVopSampleMode) (g : Geometry) (bytes : ℕ) (v : PvopMbMotion) (corner : Point) (area : ℕ)
-    → macroblockReply m g bytes v corner area ≡ Done → MacroblockReady m g bytes v corner area
+pub macroblock-ready : (m : BVopSampleMode) (g : Geometry) (bytes : ℕ) (v : PvopMbMotion) (corner : Point) (rounding area : ℕ)
+    → macroblockReply m g bytes v corner rounding area ≡ Done → MacroblockReady m g bytes v corner area
 unfolding macroblockReply
-macroblock-ready m g bytes v corner area e =
+macroblock-ready m g bytes v corner rounding area e =
     let r = referenceReply g bytes in
+    let o = motionsReply v corner in
     let l = lengthReply area 16 16 in
-    let e1 = then-done (modeReply m) (andThen r (andThen (motionsReply v corner) l)) e in
-    let e2 = then-done r (andThen (motionsReply v corner) l) e1 in
+    let t = roundingReply rounding in
+    let e1 = then-done (modeReply m) (andThen r (andThen o (andThen l t))) e in
+    let e2 = then-done r (andThen o (andThen l t)) e1 in
     record {
-      mode = first-done (modeReply m) (andThen r (andThen (motionsReply v corner) l)) e;
-      reference = first-done r (andThen (motionsReply v corner) l) e1;
-      motions = first-done (motionsReply v corner) l e2;
-      fits = length-is area 16 16 (then-done (motionsReply v corner) l e2);
+      mode = first-done (modeReply m) (andThen r (andThen o (andThen l t))) e;
+      reference = first-done r (andThen o (andThen l t)) e1;
+      motions = first-done o (andThen l t) e2;
+      fits = length-is area 16 16 (first-done l t (then-done o (andThen l t) e2));
     }
 
 -- with four vectors, none of the four blocks is turned back

@@ -6,7 +6,11 @@ use mathlib.Core.List.{List}
 use lib.Dec.{eqb}
 use lib.IntN.{ℤ, pos, _*ℤ_}
 use Rattle.basis.specs.Lists.{raster}
+use Rattle.refusal.specs.declared.Refusal.the-variants.{RoundingType}
 use Rattle.refusal.specs.declared.Reply.{Reply}
+use Rattle.refusal.specs.declared.Reply.the-variants.{Done}
+use Rattle.refusal.specs.Reply.{unless, andThen}
+use Rattle.refusal.specs.Bounds.{isRoundingType}
 use Rattle.record.specs.declared.MotionVector.{MotionVector}
 use Rattle.plane.specs.declared.Geometry.{Geometry}
 use Rattle.plane.specs.declared.Site.{Site}
@@ -40,6 +44,14 @@ unfoldable pub predictedBlock : BVopSampleMode → Plane → Site → ℕ → Mo
 predictedBlock m p site rounding v = raster (site .width) (site .height) (predictedSample m p site rounding v)
 
 -- 3 in quarter mode, then 4, 5, 8, 12, 14
-abbrev pub predictReply : BVopSampleMode → Geometry → ℕ → MotionVector → Site → ℕ → Reply
-predictReply HalfPel g bytes v site area = blockReply g bytes v site area
-predictReply (QuarterPel bpp) g bytes v site area = quarterReply bpp g bytes v site area
+abbrev pub interpolationReply : BVopSampleMode → Geometry → ℕ → MotionVector → Site → ℕ → Reply
+interpolationReply HalfPel g bytes v site area = blockReply g bytes v site area
+interpolationReply (QuarterPel bpp) g bytes v site area = quarterReply bpp g bytes v site area
+
+-- 31: a rounding type above 1
+unfoldable pub roundingReply : ℕ → Reply
+roundingReply rounding = unless (isRoundingType rounding) RoundingType Done
+
+-- those of interpolation, then 31
+unfoldable pub predictReply : BVopSampleMode → Geometry → ℕ → MotionVector → Site → ℕ → ℕ → Reply
+predictReply m g bytes v site rounding area = andThen (interpolationReply m g bytes v site area) (roundingReply rounding)

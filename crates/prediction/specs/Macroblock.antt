@@ -18,7 +18,7 @@ use Rattle.prediction.specs.declared.BVopSampleMode.{BVopSampleMode}
 use Rattle.prediction.specs.declared.BVopSampleMode.the-variants.{HalfPel, QuarterPel}
 use Rattle.prediction.specs.declared.PvopMbMotion.{PvopMbMotion}
 use Rattle.prediction.specs.declared.PvopMbMotion.the-variants.{OneMv, FourMv}
-use Rattle.prediction.specs.Luma.{predictedSample}
+use Rattle.prediction.specs.Luma.{predictedSample, roundingReply}
 
 -- 8 x 8 block k, from a copy of its own, by its own vector
 abbrev pub eightSample : BVopSampleMode → Plane → List MotionVector → Point → ℕ → ℕ → ℕ → ℕ → ℕ
@@ -45,7 +45,10 @@ motionsReply (FourMv a b c d) corner =
     andThen (motionReply a (blockCorner corner 0))
     (andThen (motionReply b (blockCorner corner 1)) (andThen (motionReply c (blockCorner corner 2)) (motionReply d (blockCorner corner 3))))
 
--- 3, 4, 5, 8, 12
-unfoldable pub macroblockReply : BVopSampleMode → Geometry → ℕ → PvopMbMotion → Point → ℕ → Reply
-macroblockReply m g bytes v corner area =
-    andThen (modeReply m) (andThen (referenceReply g bytes) (andThen (motionsReply v corner) (lengthReply area 16 16)))
+-- 3, 4, 5, 8, 12, 31
+unfoldable pub macroblockReply : BVopSampleMode → Geometry → ℕ → PvopMbMotion → Point → ℕ → ℕ → Reply
+macroblockReply m g bytes v corner rounding area =
+    andThen (modeReply m)
+    (andThen (referenceReply g bytes)
+    (andThen (motionsReply v corner)
+    (andThen (lengthReply area 16 16) (roundingReply rounding))))

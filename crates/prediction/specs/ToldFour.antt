@@ -13,12 +13,12 @@ use Rattle.plane.specs.Plane.{Plane}
 use Rattle.plane.specs.Corner.{blockCorner, squareAt}
 use Rattle.plane.specs.Reference.{originInRange}
 use Rattle.prediction.specs.declared.BVopSampleMode.{BVopSampleMode}
-use Rattle.prediction.specs.Luma.{predictedBlock, predictReply}
+use Rattle.prediction.specs.Luma.{predictedBlock, interpolationReply}
 
 -- none of the four is turned back
 pub record FourReady (m : BVopSampleMode) (g : Geometry) (bytes : ℕ) (vs : List MotionVector) (corner : Point) : Type 0 where
   pub in-range : originInRange corner ≡ true
-  pub each : (k : ℕ) → k < 4 → predictReply m g bytes (getD vs k zeroVector) (squareAt (blockCorner corner k) 8) 64 ≡ Done
+  pub each : (k : ℕ) → k < 4 → interpolationReply m g bytes (getD vs k zeroVector) (squareAt (blockCorner corner k) 8) 64 ≡ Done
 
 -- 8 x 8 block k, from a copy of its own, by its own vector
 abbrev pub eightBlock : BVopSampleMode → Plane → List MotionVector → Point → ℕ → ℕ → List ℕ

@@ -75,7 +75,7 @@ fn predict_block(
         width: 8,
         height: 8,
     };
-    crate::predict_luma_block(samples, geometry, mode, site, v, rounding, out);
+    crate::interpolate_block(samples, geometry, mode, site, v, rounding, out);
 }
 
 // The four blocks, one after the other.

@@ -19,7 +19,8 @@ use Rattle.refusal.specs.Test.{inRange}
 use Rattle.refusal.proofs.Tests.{range-low, range-high}
 use Rattle.quantise.specs.Block.{levelAt, blockLevels, quantiseReply}
 use Rattle.basis.specs.Cut.{cutTo}
-use Rattle.quantise.specs.Level.{signed, quotientByQuantiser, levelByQuantiser, inverseSize, inverseByQuantiser}
+use Rattle.basis.specs.Signed.{signed}
+use Rattle.quantise.specs.Level.{quotientByQuantiser, levelByQuantiser, inverseSize, inverseByQuantiser}
 use Rattle.quantise.specs.Near.{tolerance, Near, NearAll}
 use Rattle.quantise.proofs.Accepted.{sound}
 use Rattle.quantise.proofs.Signs.{size-in, signed-cut, cut-above, cut-below}

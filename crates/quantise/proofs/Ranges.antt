@@ -10,7 +10,8 @@ use Rattle.basis.proofs.Lists.{length-tabulate, getD-tabulate}
 use Rattle.refusal.specs.Test.{inRange}
 use Rattle.refusal.proofs.Tests.{cut-in}
 use Rattle.quantise.specs.Block.{levelAt, blockLevels}
-use Rattle.quantise.specs.Level.{signed, quotientByQuantiser, levelByQuantiser, quotientByWeight, levelByWeight}
+use Rattle.basis.specs.Signed.{signed}
+use Rattle.quantise.specs.Level.{quotientByQuantiser, levelByQuantiser, quotientByWeight, levelByWeight}
 
 level-in : (first : Bool) (w q : ℕ) (f : ℤ) → inRange (negsuc 2046) (pos 2047) (cond first (levelByWeight w q f) (levelByQuantiser q f)) ≡ true
 unfolding levelByQuantiser levelByWeight

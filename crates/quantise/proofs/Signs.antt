@@ -19,7 +19,8 @@ use Rattle.basis.proofs.Signed.{lt-true, lt-false}
 use Rattle.refusal.specs.Test.{inRange}
 use Rattle.refusal.proofs.Tests.{range-low, range-high}
 use Rattle.basis.specs.Cut.{cutTo}
-use Rattle.quantise.specs.Level.{signed, inverseSize}
+use Rattle.basis.specs.Signed.{signed}
+use Rattle.quantise.specs.Level.{inverseSize}
 
 -- a size from a range
 pub size-in : (a b : ℕ) (z : ℤ) → inRange (negsuc a) (pos b) z ≡ true → b ≤ suc a → natAbs z ≤ suc a

@@ -2,13 +2,9 @@
 use Prim.Native.Nat.{ℕ, _+_, _*_, _-_, _/_, _%_}
 use mathlib.Core.Bool.{cond}
 use lib.Dec.{eqb}
-use lib.IntN.{ℤ, pos, negsuc, negℤ, natAbs}
+use lib.IntN.{ℤ, pos, negsuc, natAbs}
 use Rattle.basis.specs.Cut.{cutTo}
-
--- m with the sign of f
-abbrev pub signed : ℤ → ℕ → ℤ
-signed (pos a) m = pos m
-signed (negsuc a) m = negℤ (pos m)
+use Rattle.basis.specs.Signed.{signed}
 
 -- the second method, before sign and cut: max(|f| - floor(q/2), 0) / 2q without its fraction
 abbrev pub quotientByQuantiser : ℕ → ℤ → ℕ

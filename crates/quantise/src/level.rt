@@ -3,7 +3,8 @@
 ghost use mathlib.Core.Path.{_≡_};
 ghost use Prim.Native.Nat.{_-_, _≤_, _<_};
 ghost use lib.IntN.{natAbs};
-ghost use Rattle.quantise.specs.Level.{signed, levelByQuantiser, levelByWeight, inverseSize, inverseByQuantiser};
+ghost use Rattle.basis.specs.Signed.{signed};
+ghost use Rattle.quantise.specs.Level.{levelByQuantiser, levelByWeight, inverseSize, inverseByQuantiser};
 ghost use Rattle.quantise.specs.Told.{reciprocalOf, Quantisable, Weighable};
 
 // x moved toward 0 by d, and not past it: less what of it lies within d on either side, which takes no branch on its sign.

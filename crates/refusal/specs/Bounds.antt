@@ -1,4 +1,4 @@
--- What the settings of a call may be, each once: rules F1, F2, F3, F10 and F14.
+-- What the settings of a call may be, each once: rules F1, F2, F3, F10, F14 and F31.
 use Prim.Native.Nat.{ℕ}
 use mathlib.Core.Bool.{Bool, _||_}
 use lib.Dec.{eqb}
@@ -19,3 +19,6 @@ isQuantiser n = between 1 31 n
 
 abbrev pub isVectorCount : ℕ → Bool
 isVectorCount n = eqb n 1 || eqb n 4
+
+abbrev pub isRoundingType : ℕ → Bool
+isRoundingType n = between 0 1 n

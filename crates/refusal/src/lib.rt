@@ -1,4 +1,4 @@
-// Why a call is turned back, by its number (rules F1 to F23); the one reply; and what lists of refusals are written with.
+// Why a call is turned back, by its number (rules F1 to F31); the one reply; and what lists of refusals are written with.
 ghost use mathlib.Core.Path.{_≡_};
 ghost use mathlib.Core.Bool.{_&&_, _||_};
 ghost use Prim.Native.Nat.{_*_};
@@ -7,7 +7,7 @@ ghost use Rattle.refusal.specs.Number.{numberOf, codeOf};
 ghost use Rattle.refusal.specs.Reply.{unless, andThen};
 ghost use Rattle.refusal.specs.Test.{between, inRange, allInRange};
 
-// In the order of the lists: 1 to 14 because of the input, 21 to 23 because of the run.
+// By number: 1 to 14 because of the input, 21 to 23 because of the run; 31 because of the input, after 14.
 pub enum Refusal {
     Fcode,
     Mode,
@@ -26,6 +26,7 @@ pub enum Refusal {
     AfterLast,
     OtherSize,
     BeforeLast,
+    RoundingType,
 }
 
 pub enum Reply {
@@ -54,6 +55,7 @@ pub fn number(r: Refusal) -> u8
         Refusal::AfterLast => 21,
         Refusal::OtherSize => 22,
         Refusal::BeforeLast => 23,
+        Refusal::RoundingType => 31,
     }
 }
 

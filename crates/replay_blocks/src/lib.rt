@@ -1,7 +1,10 @@
-// Stored calls of the entries for samples, blocks, levels and events, each made again: whether the reply and all that was lent are
-// the stored ones. Every lent area is full of the bytes 0xa5 before its call, and has room past its end, which has to stay so.
+// Stored calls of the entries for samples, blocks, levels, events and a macroblock's prediction, each made again: whether the reply and
+// all that was lent are the stored ones. Every lent area is full of the bytes 0xa5 before its call, and has room past its end, which has
+// to stay so.
+mod chroma;
 mod levels;
 mod luma;
+mod planes;
 mod sample;
 mod source;
 
@@ -22,7 +25,7 @@ fn of_samples(call: &[u8], entry: u8) -> bool {
     }
 }
 
-// The entries 1 to 19: false for any other.
+// The entries 1 to 19 and 32 to 35: false for any other.
 pub fn replay(call: &[u8]) -> bool {
     let entry = stored::entry(call);
     match entry {
@@ -35,6 +38,10 @@ pub fn replay(call: &[u8]) -> bool {
         17 => levels::inter_scan(call),
         18 => source::source_luma_block(call),
         19 => source::source_chroma_block(call),
+        32 => chroma::chroma_vector(call),
+        33 => chroma::chroma_vector_4mv(call),
+        34 => planes::predict_macroblock(call),
+        35 => planes::predict_macroblock_4mv(call),
         _ => of_samples(call, entry),
     }
 }

@@ -41,7 +41,7 @@ pub fn predict_luma_macroblock(call: &[u8]) -> bool {
 }
 
 // The first eight.
-fn eight(v: [i32; 400]) -> [i32; 8] {
+pub fn eight(v: [i32; 400]) -> [i32; 8] {
     [v[0], v[1], v[2], v[3], v[4], v[5], v[6], v[7]]
 }
 

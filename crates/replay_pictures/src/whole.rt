@@ -1,7 +1,7 @@
-// The entries that search for a macroblock and code it.
+// The entries that search for a macroblock and code it against a lent prediction.
 
 // The areas of a record, from slot k[0] on.
-fn record_same(
+pub fn record_same(
     call: &[u8],
     k: [u8; 6],
     vector: &[i32; 2],

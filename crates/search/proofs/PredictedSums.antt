@@ -18,7 +18,7 @@ use Rattle.plane.specs.Corner.{squareAt}
 use Rattle.plane.specs.Plane.{planeOf}
 use Rattle.plane.specs.Reference.{originInRange}
 use Rattle.plane.proofs.Ready.{motion-done}
-use Rattle.prediction.specs.Luma.{predictedBlock, predictReply}
+use Rattle.prediction.specs.Luma.{predictedBlock, interpolationReply}
 use Rattle.prediction.proofs.Ready.{luma-done}
 use Rattle.full_search.specs.declared.Target.{Target}
 use Rattle.full_search.specs.Block.{blockOf}
@@ -38,7 +38,7 @@ corner-in o i = both (part (o .x) (i .x-most) (i .x-least)) (part (o .y) (i .y-m
 
 module _ (source samples : List ℕ) (t : Target) (s : SearchSettings) (v : MotionVector) (p : Predictable source samples t s v) where
   pub predicted-done : (area : ℕ) → area ≡ t .side * t .side
-      → predictReply (s .mode) (t .geometry) (length samples) v (squareAt (t .corner) (t .side)) area ≡ Done
+      → interpolationReply (s .mode) (t .geometry) (length samples) v (squareAt (t .corner) (t .side)) area ≡ Done
   predicted-done area k =
       let r = p .ready in
       luma-done (s .mode) (t .geometry) (length samples) v (squareAt (t .corner) (t .side)) area (p .mode-usable) (r .reference)

@@ -48,7 +48,7 @@ fn predicted_sum(
         width: side,
         height: side,
     };
-    prediction::predict_luma_block(reference, geometry, mode, site, vector, rounding, predicted);
+    prediction::interpolate_block(reference, geometry, mode, site, vector, rounding, predicted);
     full_search::block_sum(source, predicted, side)
 }
 

@@ -1,13 +1,33 @@
-//! One call of the entry that searches and codes, and how the originals are asked.
+//! One call of the entries that search and code, and how either side is asked.
 
-use crate::ask::Coding;
+use crate::ask::{self, Areas, Coding, Making, Record, ReferencePlanes, Run};
 use crate::macroblock::lent::{lines, Laid};
 use crate::macroblock::residual;
 use crate::pvop_encode::{Coder, Part};
 use std::fmt;
 
+/// Whether the prediction coded against is lent or made by the library.
+#[derive(Clone, Copy, PartialEq)]
+pub enum Form {
+    Lent,
+    Made,
+}
+
+impl Form {
+    pub const BOTH: [Form; 2] = [Form::Lent, Form::Made];
+
+    pub fn name(self) -> &'static str {
+        match self {
+            Form::Lent => "code_macroblock",
+            Form::Made => "code_predicted_macroblock",
+        }
+    }
+}
+
 pub struct Call<'a> {
+    /// Where the prediction is made, the one here is what it has to be.
     pub coding: Coding<'a>,
+    pub making: Option<Making<'a>>,
     /// Of the areas for marks, runs and levels.
     pub lens: [usize; 3],
 }
@@ -24,7 +44,34 @@ pub struct Answer {
     pub events: Laid,
 }
 
-impl Call<'_> {
+impl<'a> Call<'a> {
+    /// With areas as long as they have to be.
+    pub fn new(coding: Coding<'a>, making: Option<Making<'a>>) -> Self {
+        Call { coding, making, lens: [384; 3] }
+    }
+
+    /// The reference's planes, where the prediction is made.
+    pub fn reference(&self) -> Option<ReferencePlanes<'a>> {
+        self.making.map(|making| making.reference(self.coding.search.reference))
+    }
+
+    pub fn ask_library(&self, areas: Areas, record: Record) -> u8 {
+        match &self.making {
+            None => ask::code_macroblock(&self.coding, areas, record),
+            Some(making) => ask::code_predicted_macroblock(&self.coding, making, areas, record),
+        }
+    }
+
+    /// As a step of a run, which has no place of its own to be told.
+    pub fn ask_step(&self, run: &mut Run, areas: Areas, record: Record) -> u8 {
+        let mut told = self.coding;
+        (told.search.column, told.search.row) = (usize::MAX, usize::MAX);
+        match &self.making {
+            None => ask::step(run, &told, areas, record),
+            Some(making) => ask::step_predicted(run, &told, making, areas, record),
+        }
+    }
+
     /// The originals' answer, for a call with nothing wrong. Of four vectors they give the total of
     /// the sums; each one's is taken anew from their own function, and the total is held to them.
     pub fn ask_original(&self) -> Answer {
@@ -62,6 +109,12 @@ impl fmt::Display for Call<'_> {
         writeln!(f, "lengths of marks, runs, levels: {:?}", self.lens)?;
         let most = r.samples.len().min(1 << 16);
         write!(f, "{}", lines("reference", &r.samples[..most], r.stride))?;
+        if let Some(m) = &self.making {
+            let most = |samples: &[u8]| samples[..samples.len().min(1 << 16)].to_vec();
+            writeln!(f, "rounding: {}, chroma_stride: {}", m.rounding, m.chroma_stride)?;
+            write!(f, "{}", lines("ref_cb", &most(m.cb), m.chroma_stride))?;
+            write!(f, "{}", lines("ref_cr", &most(m.cr), m.chroma_stride))?;
+        }
         write!(f, "{}", lines("weights", q.weights, 8))?;
         write!(f, "{}", residual::text(&self.coding.macroblock()))
     }

@@ -2,7 +2,7 @@
 //! around each are compared; the error is the text of the first difference, with the whole input.
 
 use super::call::{Answer, Call};
-use crate::ask::{self, Areas, Record};
+use crate::ask::{Areas, Record};
 use crate::guard::{held, Lent};
 use crate::macroblock::lent::{named, EventsLent};
 use crate::random::Random;
@@ -51,8 +51,7 @@ impl RecordLent {
 /// Holds the library to `reply`: 0 with the originals' answer, which is handed back, or a refusal
 /// with nothing written.
 pub fn check(call: &Call, reply: u8, random: &mut Random) -> Result<Answer, String> {
-    let ask = |areas: Areas, record: Record| ask::code_macroblock(&call.coding, areas, record);
-    check_by(ask, call, reply, random)
+    check_by(|areas, record| call.ask_library(areas, record), call, reply, random)
 }
 
 /// The same of any entry that is to answer as this one does.

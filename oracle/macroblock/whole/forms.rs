@@ -2,20 +2,25 @@
 //! calls tell it from the right one, so that a library which had it would be noticed. Wrong forms
 //! of the search are counted where the searches are compared.
 
-use super::call::{Answer, Call};
+use super::call::{Answer, Call, Form};
+use super::Against;
 use crate::ask::{Coding, Prediction, Source};
 use crate::counted::Counted;
 use crate::macroblock::lent::Laid;
 use crate::motion::MotionVector;
+use crate::predicted::{Samples, Told};
+use crate::predicting::{forms, Count};
 use crate::pvop_encode::{prediction_of, Coder};
 use crate::pvop_mv::{predict_luma_macroblock, PvopMbMotion};
 
 pub const TOLD_FROM: &str = "told from";
+/// Wrong forms of a prediction that is made.
+pub const PREDICTION: &str = "prediction told from";
 
 /// A wrong form that so many calls told from the right one is not tried any more.
 const OFTEN: usize = 1_000;
 
-pub const NAMES: [&str; 10] = [
+const NAMES: [&str; 9] = [
     "first method as the second",
     "second method as the first",
     "scans 0 and 1 exchanged",
@@ -24,17 +29,57 @@ pub const NAMES: [&str; 10] = [
     "quantiser one less",
     "Cb and Cr exchanged",
     "chroma sides halved down",
-    "coded against its own luma prediction",
     "four seeded by zero",
 ];
+const OWN_PREDICTION: &str = "coded against its own luma prediction";
+const SUM_AT_TYPE: &str = "sum at the rounding type";
+
+pub fn names(form: Form) -> Vec<&'static str> {
+    let own = match form {
+        Form::Lent => OWN_PREDICTION,
+        Form::Made => SUM_AT_TYPE,
+    };
+    NAMES.into_iter().chain([own]).collect()
+}
+
+/// Of one vector and of four.
+pub fn predictions() -> Vec<&'static str> {
+    let mut all = forms::names(Count::One);
+    all.extend(forms::names(Count::Four));
+    all.sort();
+    all.dedup();
+    all
+}
 
 /// Counts the wrong forms that would have shown.
-pub fn count(call: &Call, answer: &Answer, counted: &mut Counted) {
-    for name in NAMES {
+pub fn count(call: &Call, against: &Against, answer: &Answer, counted: &mut Counted) {
+    for name in names(against.form()) {
         if counted.so_far(TOLD_FROM, name) < OFTEN && differs(name, call, answer) {
             counted.add(TOLD_FROM, name);
         }
     }
+    let Against::Made(told, samples) = against else { return };
+    for name in predictions() {
+        if counted.so_far(PREDICTION, name) < OFTEN
+            && predicted_otherwise(name, call, told, samples, answer)
+        {
+            counted.add(PREDICTION, name);
+        }
+    }
+}
+
+/// Whether a wrong form of the prediction gives other events.
+fn predicted_otherwise(
+    name: &str,
+    call: &Call,
+    told: &Told,
+    right: &Samples,
+    answer: &Answer,
+) -> bool {
+    let [x, y] = answer.vector;
+    let Some(samples) = told.wrong(name, MotionVector { x, y }, right) else { return false };
+    let prediction = samples.lent();
+    samples != *right && events(&Coding { prediction, ..call.coding }, answer)
 }
 
 fn differs(name: &str, call: &Call, answer: &Answer) -> bool {
@@ -71,7 +116,8 @@ fn differs(name: &str, call: &Call, answer: &Answer) -> bool {
             events(&c, answer)
         }
         "chroma sides halved down" => halved_down(&c, answer),
-        "coded against its own luma prediction" => own_prediction(c, answer),
+        OWN_PREDICTION => own_prediction(c, answer),
+        SUM_AT_TYPE => call.making.is_some_and(|m| sum_at_type(&c, m.rounding, answer)),
         _ => c.vectors == 4 && seeded_by_zero(&c, answer),
     }
 }
@@ -106,14 +152,27 @@ fn halved_down(c: &Coding, answer: &Answer) -> bool {
 
 /// The luma coded against what the one vector predicts instead of the lent prediction.
 fn own_prediction(c: Coding, answer: &Answer) -> bool {
-    let coder = Coder::new(&c);
-    let [x, y] = answer.vector;
-    let (place, motion) = (&coder.place, PvopMbMotion::OneMv(MotionVector { x, y }));
-    let luma = predict_luma_macroblock(motion, &place.reference, place.x, place.y, 0, place.mode);
-    let luma = luma.expect("one vector always gives a prediction");
+    let luma = one_vector_luma(&Coder::new(&c), answer, 0);
     let prediction = Prediction { y: &luma, ..c.prediction };
     prediction_of(&prediction).luma != prediction_of(&c.prediction).luma
         && events(&Coding { prediction, ..c }, answer)
+}
+
+/// What the answer's one vector predicts.
+fn one_vector_luma(coder: &Coder, answer: &Answer, rounding: u8) -> [u8; 256] {
+    let [x, y] = answer.vector;
+    let (place, motion) = (&coder.place, PvopMbMotion::one(x, y));
+    predict_luma_macroblock(motion, &place.reference, place.x, place.y, rounding, place.mode)
+        .expect("one vector always gives a prediction")
+}
+
+/// Whether the one vector's sum is another at the prediction's rounding type.
+fn sum_at_type(c: &Coding, rounding: u8, answer: &Answer) -> bool {
+    let coder = Coder::new(c);
+    let luma = one_vector_luma(&coder, answer, rounding);
+    let source = coder.place.samples.as_flattened().iter();
+    let apart = source.zip(luma).map(|(sample, own)| sample.abs_diff(own.into()));
+    apart.sum::<u32>() != answer.sum
 }
 
 fn seeded_by_zero(c: &Coding, answer: &Answer) -> bool {

@@ -1,16 +1,20 @@
 //! What is counted of a valid call, beside what is counted of its search.
 
-use super::call::{Answer, Call};
+use super::call::{Answer, Call, Form};
 use super::forms;
 use super::still::Still;
+use super::Against;
 use crate::counted::{held, strings, Mark};
-use crate::macroblock::predicted::{Kind, KINDS};
+use crate::macroblock::predicted::KINDS;
+use crate::predicted::chroma_vector;
 use crate::search::call::{self, Function};
 use crate::search::marks;
 
 const SETTINGS: &str = "method, scan and vectors";
 const QUANTISERS: &str = "quantisers";
 const PREDICTIONS: &str = "predictions";
+const MADE: &str = "mode, rounding type and vectors";
+const CHROMA: &str = "chroma's halves";
 const PATTERNS: &str = "patterns";
 const BLOCKS: &str = "blocks";
 const SIDES: &str = "sides";
@@ -29,7 +33,7 @@ const SIDE_NAMES: [&str; 7] = [
 const FOUR_NAMES: [&str; 4] = ["all the one vector", "one other", "all different", "sum below"];
 
 /// Every title with every name.
-pub fn all() -> Vec<(&'static str, Vec<String>)> {
+pub fn all(form: Form) -> Vec<(&'static str, Vec<String>)> {
     let mut settings = Vec::new();
     for method in ["first", "second"] {
         for vectors in ["one", "four"] {
@@ -43,18 +47,25 @@ pub fn all() -> Vec<(&'static str, Vec<String>)> {
     all.extend([
         (SETTINGS, settings),
         (QUANTISERS, strings(&["1", "even", "odd above 1", "31"])),
-        (PREDICTIONS, KINDS.iter().map(|kind| format!("{kind:?}")).collect()),
         (PATTERNS, patterns.collect()),
         (BLOCKS, strings(&BLOCK_NAMES)),
         (SIDES, strings(&SIDE_NAMES)),
         (FOUR, strings(&FOUR_NAMES)),
-        (forms::TOLD_FROM, strings(&forms::NAMES)),
+        (forms::TOLD_FROM, strings(&forms::names(form))),
     ]);
+    if form == Form::Lent {
+        all.push((PREDICTIONS, KINDS.iter().map(|kind| format!("{kind:?}")).collect()));
+        return all;
+    }
+    let made = ["0 0", "0 1", "1 0", "1 1"].into_iter();
+    all.push((MADE, made.flat_map(|m| ["one", "four"].map(|v| format!("{m} {v}"))).collect()));
+    all.push((CHROMA, strings(&["0,0", "0,1", "1,0", "1,1"])));
+    all.push((forms::PREDICTION, strings(&forms::predictions())));
     all
 }
 
 /// The names that a call counts for.
-pub fn of(call: &Call, still: &Still, kind: Kind, answer: &Answer) -> Vec<Mark> {
+pub fn of(call: &Call, still: &Still, against: &Against, answer: &Answer) -> Vec<Mark> {
     let q = &call.coding.quantising;
     let search = call::Call::new(Function::One, call.coding.search, (0, 0));
     let one = call::Answer { vectors: answer.vector.to_vec(), sums: vec![answer.sum] };
@@ -62,7 +73,15 @@ pub fn of(call: &Call, still: &Still, kind: Kind, answer: &Answer) -> Vec<Mark> 
     let method = if q.first_method != 0 { "first" } else { "second" };
     let vectors = if call.coding.vectors == 4 { "four" } else { "one" };
     all.push((SETTINGS, format!("{method} {} {vectors}", q.scan)));
-    all.push((PREDICTIONS, format!("{kind:?}")));
+    match against {
+        Against::Lent(predicted) => all.push((PREDICTIONS, format!("{:?}", predicted.kind))),
+        Against::Made(told, _) => {
+            let chroma = chroma_vector(told.mode, told.motion);
+            let mode = call.coding.search.mode;
+            all.push((MADE, format!("{mode} {} {vectors}", told.rounding)));
+            all.push((CHROMA, format!("{},{}", chroma.x & 1, chroma.y & 1)));
+        }
+    }
     let quantisers = vec![
         ("1", q.quantiser == 1),
         ("even", q.quantiser.is_multiple_of(2)),

@@ -26,11 +26,11 @@ pub struct Planes {
 }
 
 impl Planes {
-    fn read(c: &mut Calls) -> Planes {
+    pub fn read(c: &mut Calls) -> Planes {
         Planes { y: c.area(), cb: c.area(), cr: c.area() }
     }
 
-    fn source(&self, width: usize, height: usize) -> Source<'_> {
+    pub fn source(&self, width: usize, height: usize) -> Source<'_> {
         Source { y: &self.y, cb: &self.cb, cr: &self.cr, width, height }
     }
 
@@ -133,7 +133,7 @@ pub fn inter_cbp(c: &mut Calls) {
     c.answered(Ok(hencouch::inter_cbp(counts)), Patterns { luma, chroma });
 }
 
-/// What the entries that search and code are told; a step has no place.
+/// What the entries that search and code against a lent prediction are told; a step has no place.
 pub struct Coding {
     pub numbers: Numbers,
     pub plane: Plane,
@@ -157,9 +157,9 @@ pub struct Numbers {
     pub scan: u32,
 }
 
-impl Coding {
-    pub fn read(c: &mut Calls, with_place: bool) -> Coding {
-        let numbers = Numbers {
+impl Numbers {
+    pub fn read(c: &mut Calls) -> Numbers {
+        Numbers {
             fcode: c.number(),
             mode: c.number(),
             bits_per_pixel: c.number(),
@@ -167,9 +167,21 @@ impl Coding {
             first_method: c.number(),
             vectors: c.number(),
             scan: c.number(),
-        };
+        }
+    }
+
+    pub fn settings<'a>(&self, weights: &'a [u8]) -> Settings<'a> {
+        let Numbers { fcode, mode, bits_per_pixel, quantiser, first_method, vectors, scan } = *self;
+        let first_method = first_method != 0;
+        let quantising = Quantising { quantiser, first_method, weights, scan };
+        Settings { fcode, mode: Mode { mode, bits_per_pixel }, vectors, quantising }
+    }
+}
+
+impl Coding {
+    pub fn read(c: &mut Calls, with_place: bool) -> Coding {
         Coding {
-            numbers,
+            numbers: Numbers::read(c),
             plane: Plane::read(c),
             source: Planes::read(c),
             width: c.number(),
@@ -182,11 +194,7 @@ impl Coding {
     }
 
     pub fn settings(&self) -> Settings<'_> {
-        let Numbers { fcode, mode, bits_per_pixel, quantiser, first_method, vectors, scan } =
-            self.numbers;
-        let (first_method, weights) = (first_method != 0, &self.weights[..]);
-        let quantising = Quantising { quantiser, first_method, weights, scan };
-        Settings { fcode, mode: Mode { mode, bits_per_pixel }, vectors, quantising }
+        self.numbers.settings(&self.weights)
     }
 
     pub fn source(&self) -> Source<'_> {

@@ -7,6 +7,7 @@
 mod calls;
 mod levels;
 mod macroblocks;
+mod predicted;
 mod runs;
 mod samples;
 mod searches;
@@ -18,7 +19,7 @@ use std::collections::BTreeSet;
 type Entry = (&'static str, fn(&mut Calls), &'static [u8]);
 
 /// In the order of include/hencouch.h, which numbers them from 1.
-const ENTRIES: [Entry; 31] = [
+const ENTRIES: [Entry; 37] = [
     ("interpolate_block_into", samples::interpolate_block_into, &[4, 5, 8, 12, 14]),
     ("interpolate_block_qpel_into", samples::interpolate_block_qpel_into, &[3, 4, 5, 8, 12, 14]),
     ("interpolate_pixel", samples::interpolate_pixel, &[]),
@@ -26,9 +27,9 @@ const ENTRIES: [Entry; 31] = [
     ("split_quarter_pel", samples::split_quarter_pel, &[]),
     ("fetch_clamped", samples::fetch_clamped, &[4, 5]),
     ("copy_block", samples::copy_block, &[4, 5, 12]),
-    ("predict_luma_block", samples::predict_luma_block, &[2, 3, 4, 5, 8, 12, 14]),
-    ("predict_luma_macroblock", samples::predict_luma_macroblock, &[2, 3, 4, 5, 8, 12]),
-    ("predict_luma_macroblock_4mv", samples::predict_luma_macroblock_4mv, &[2, 3, 4, 5, 8, 12]),
+    ("predict_luma_block", samples::predict_luma_block, &[2, 3, 4, 5, 8, 12, 14, 31]),
+    ("predict_luma_macroblock", samples::predict_luma_macroblock, &[2, 3, 4, 5, 8, 12, 31]),
+    ("predict_luma_macroblock_4mv", samples::predict_luma_macroblock_4mv, &[2, 3, 4, 5, 8, 12, 31]),
     ("forward_dct_8x8", levels::forward_dct_8x8, &[12, 13]),
     ("quantise_block", levels::quantise_block, &[10, 11, 12, 13]),
     ("inverse_block", levels::inverse_block, &[10, 12, 13]),
@@ -50,6 +51,20 @@ const ENTRIES: [Entry; 31] = [
     ("next_place", runs::next_place, &[]),
     ("step", runs::step, &[1, 2, 3, 4, 5, 6, 7, 10, 11, 12, 14, 21, 22]),
     ("close", runs::close, &[23]),
+    ("chroma_vector", predicted::chroma_vector, &[2, 8]),
+    ("chroma_vector_4mv", predicted::chroma_vector_4mv, &[2, 8]),
+    ("predict_macroblock", predicted::predict_macroblock, &[2, 3, 4, 5, 8, 12, 31]),
+    ("predict_macroblock_4mv", predicted::predict_macroblock_4mv, &[2, 3, 4, 5, 8, 12, 31]),
+    (
+        "code_predicted_macroblock",
+        predicted::code_predicted_macroblock,
+        &[1, 2, 3, 4, 5, 6, 7, 8, 10, 11, 12, 14, 31],
+    ),
+    (
+        "step_predicted",
+        predicted::step_predicted,
+        &[1, 2, 3, 4, 5, 6, 7, 10, 11, 12, 14, 21, 22, 31],
+    ),
 ];
 
 #[test]

@@ -5,7 +5,7 @@ use crate::levels::EventsLent;
 use crate::macroblocks::{Coding, RecordLent};
 use hencouch::{raw, Place, Run, Totals};
 
-fn run_of([width, height, macroblocks, events, sums]: [u64; 5]) -> Run {
+pub fn run_of([width, height, macroblocks, events, sums]: [u64; 5]) -> Run {
     Run { width, height, macroblocks, events, sums }
 }
 

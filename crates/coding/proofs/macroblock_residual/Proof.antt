@@ -3,7 +3,7 @@ use mathlib.Core.Path.{_≡_, refl, sym, _∙_}
 use lib.ListN.{length}
 use Rattle.refusal.specs.declared.Reply.the-variants.{Done}
 use Rattle.refusal.proofs.Replies.{not-done}
-use Rattle.coding.specs.Residual.{Samples, samples}
+use Rattle.plane.specs.Samples.{Samples, samples}
 use Rattle.coding.specs.Reply.{residualReply}
 use Rattle.coding.proofs.Accepted.{residual-accepted}
 use borrow.Author.Needs.{needs}

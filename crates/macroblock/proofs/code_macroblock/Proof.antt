@@ -41,7 +41,7 @@ code-ready-requires c κs =
 returns : tie.Need-returns
 returns c =
     let r = c .before .before .before in
-    (refused-answer (asked (startAt r)) _ _ (sym (r .request-reply .ensures) ∙ c .before .why .given .1) (r .before .no-record .ensures), λ e. not-done _ e)
+    (refused-answer (asked (startAt r)) _ _ _ (sym (r .request-reply .ensures) ∙ c .before .why .given .1) (r .before .no-record .ensures), λ e. not-done _ e)
 
 same-length : tie.Need-same-length
 same-length c = search needs
@@ -58,7 +58,7 @@ returns-2 c =
     let t = k .before .before .before .before in
     let q = asked (startAt (t .before .before)) in
     let e = k .code-ready .ensures in
-    let is = done-answer q _ _ (taken t) (e .0) (e .1) in
+    let is = done-answer q _ _ _ (taken t) (e .0) (e .1) in
     (is, λ _. subst (Demand 0 q) (sym is) (demanded q (taken t)))
 
 pub code-macroblock-spec : {M : Type 1} → statement M

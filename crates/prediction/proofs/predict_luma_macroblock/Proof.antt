@@ -10,29 +10,37 @@ use Rattle.prediction.proofs.predict_luma_macroblock.Statement.{stateme
 use Rattle.prediction.proofs.predict_luma_macroblock.Tie as tie
 
 abbrev replyOf : tie.Start → Reply
-replyOf s = let a = s .args in macroblockReply (a .mode) (a .geometry) (length (a .samples .now)) (a .motion) (a .corner) (length (a .out .now))
+replyOf s = let a = s .args in macroblockReply (a .mode) (a .geometry) (length (a .samples .now)) (a .motion) (a .corner) (a .rounding) (length (a .out .now))
 
-answered : (c : tie.After-and-then3) → c .and-then3 .result ≡ replyOf (c .before .before .before .before .before .before .before .before .before)
+answered : (c : tie.After-and-then4) → c .and-then4 .result ≡ replyOf (c .before .before .before .before .before .before .before .before .before .before .before)
 unfolding macroblockReply
 answered c =
     let m = c .before in
     let r = m .before .before in
     let v = r .before .before in
-    joined (c .and-then3 .ensures) (m .mode-reply .ensures)
-    (joined (m .before .and-then2 .ensures) (r .reference-reply .ensures)
-    (joined (r .before .and-then .ensures) (v .motions-reply .ensures) (v .before .length-reply .ensures)))
+    let t = v .before .before in
+    joined (c .and-then4 .ensures) (m .mode-reply .ensures)
+    (joined (m .before .and-then3 .ensures) (r .reference-reply .ensures)
+    (joined (r .before .and-then2 .ensures) (v .motions-reply .ensures)
+    (joined (v .before .and-then .ensures) (t .before .length-reply .ensures) (t .rounding-reply .ensures))))
 
-done : (c : tie.After-enum-told) → replyOf (c .before .before .before .before .before .before .before .before .before .before .before) ≡ Done
+done : (c : tie.After-enum-told) → replyOf (c .before .before .before .before .before .before .before .before .before .before .before .before .before) ≡ Done
 done c = sym (answered (c .before .before)) ∙ c .enum-told .given .1
 
 length-reply-requires : tie.Need-length-reply-requires
 length-reply-requires c κs = search needs
 
-motions-reply-requires : tie.Need-motions-reply-requires
-motions-reply-requires c κs = search needs
+rounding-reply-requires : tie.Need-rounding-reply-requires
+rounding-reply-requires c κs = search needs
 
 and-then-requires : tie.Need-and-then-requires
 and-then-requires c κs = search needs
+
+motions-reply-requires : tie.Need-motions-reply-requires
+motions-reply-requires c κs = search needs
+
+and-then-requires-4 : tie.Need-and-then-requires-4
+and-then-requires-4 c κs = search needs
 
 reference-reply-requires : tie.Need-reference-reply-requires
 reference-reply-requires c κs = search needs
@@ -69,12 +77,14 @@ predict-luma-macroblock-spec =
     tie.close
     (tie.spec
     length-reply-requires
-    motions-reply-requires
+    rounding-reply-requires
     and-then-requires
-    reference-reply-requires
+    motions-reply-requires
     and-then-requires-2
-    mode-reply-requires
+    reference-reply-requires
     and-then-requires-3
+    mode-reply-requires
+    and-then-requires-4
     enum-known-reply
     enum-told
     predict-ready-requires

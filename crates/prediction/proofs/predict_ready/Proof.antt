@@ -23,7 +23,7 @@ abbrev ReadyFor : tie.Start → PvopMbMotion → Type 0
 ReadyFor s m = let a = s .args in MacroblockReady (a .mode) (a .geometry) (length (a .samples .now)) m (a .corner) (length (a .out .now))
 
 ready : (s : tie.Start) (m : PvopMbMotion) → s .args .motion ≡ m → ReadyFor s m
-ready s m e = subst (ReadyFor s) e (macroblock-ready _ _ _ _ _ _ (s .pre))
+ready s m e = subst (ReadyFor s) e (macroblock-ready _ _ _ _ _ _ _ (s .pre))
 
 abbrev lumaFor : tie.Start → PvopMbMotion → List ℕ
 lumaFor s m = let a = s .args in macroblockLuma (a .mode) (planeOf (a .samples .now) (a .geometry)) m (a .corner) (a .rounding)
@@ -31,8 +31,8 @@ lumaFor s m = let a = s .args in macroblockLuma (a .mode) (planeOf (a .samples .
 enum-known-motion : tie.Need-enum-known-motion
 enum-known-motion c = search needs
 
-predict-luma-block-requires : tie.Need-predict-luma-block-requires
-predict-luma-block-requires c κs = search needs
+interpolate-block-requires : tie.Need-interpolate-block-requires
+interpolate-block-requires c κs = search needs
 
 enum-known-motion-2 : tie.Need-enum-known-motion-2
 enum-known-motion-2 c = search needs
@@ -71,9 +71,9 @@ returns c =
     let v = m .0 .0 in
     let site = squareAt (a .corner) 16 in
     let r = ready s (OneMv v) (m .1) in
-    f .predict-luma-block .ensures .1
+    f .interpolate-block .ensures .1
     ∙ ap (λ (x : Reply). done x (predictedBlock (a .mode) (planeOf (a .samples .now) (a .geometry)) site (a .rounding) v) (a .out .now))
-    (f .predict-luma-block .ensures .0
+    (f .interpolate-block .ensures .0
     ∙ luma-done (a .mode) (a .geometry) (length (a .samples .now)) v site (length (a .out .now)) (r .mode) (r .reference) (r .motions) (r .fits) refl refl)
     ∙ ap (lumaFor s) (sym (m .1))
 
@@ -100,7 +100,7 @@ predict-ready-spec =
     tie.close
     (tie.spec
     enum-known-motion
-    predict-luma-block-requires
+    interpolate-block-requires
     enum-known-motion-2
     slice-aggregate-predict-four
     predict-four-requires

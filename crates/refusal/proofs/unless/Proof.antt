@@ -4,7 +4,7 @@ use Rattle.refusal.proofs.unless.Statement.{statement}
 use Rattle.refusal.proofs.unless.Tie as tie
 
 returns : tie.Need-returns
-returns c = search needs
+returns c = rw (c .if1 .taken)
 
 returns-2 : tie.Need-returns-2
 returns-2 c = rw (c .if1 .left)

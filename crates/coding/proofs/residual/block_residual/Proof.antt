@@ -1,7 +1,7 @@
 -- `coding::residual::block_residual` meets its contract. Assumes nothing.
 use mathlib.Core.Path.{_∙_}
 use borrow.Author.Tests.{lt-ltb, le-ltb, eq-eqb, ne-eqb}
-use Rattle.coding.specs.Residual.{Samples, samples}
+use Rattle.plane.specs.Samples.{Samples, samples}
 use Rattle.coding.proofs.SixBlocks.{luma-block, blue-block, red-block}
 use borrow.Author.Needs.{needs}
 use Rattle.coding.proofs.residual.block_residual.Statement.{statement}

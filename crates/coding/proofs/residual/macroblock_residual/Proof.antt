@@ -3,7 +3,8 @@ use Prim.Native.Nat.{ℕ}
 use mathlib.Core.List.{List}
 use mathlib.Core.Path.{_≡_, refl, ap, ap₂, _∙_}
 use Rattle.plane.specs.Source.{sourceLuma, sourceChroma}
-use Rattle.coding.specs.Residual.{samples, residualOf}
+use Rattle.plane.specs.Samples.{samples}
+use Rattle.coding.specs.Residual.{residualOf}
 use Rattle.plane.proofs.ReadySource.{luma-alone, blue-alone, red-alone, luma-is, chroma-is}
 use borrow.Author.Needs.{needs}
 use Rattle.coding.proofs.residual.macroblock_residual.Statement.{statement}

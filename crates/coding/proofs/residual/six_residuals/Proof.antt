@@ -8,7 +8,8 @@ use lib.IntN.{ℤ}
 use lib.ListN.{length, length-take, length-drop}
 use Rattle.basis.proofs.Lists.{laid, laid-none, laid-put, laid-end}
 use Rattle.basis.specs.Lists.{rows}
-use Rattle.coding.specs.Residual.{Samples, samples, samplesOf, residualOf, ResidualRange}
+use Rattle.plane.specs.Samples.{Samples, samples}
+use Rattle.coding.specs.Residual.{samplesOf, residualOf, ResidualRange}
 use Rattle.coding.proofs.SixBlocks.{residualAt, block-length, six-in-range}
 use Rattle.coding.proofs.residual.six_residuals.Statement.{statement}
 use Rattle.coding.proofs.residual.six_residuals.Tie as tie

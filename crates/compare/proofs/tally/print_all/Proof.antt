@@ -8,7 +8,7 @@ abbrev Inv-loop : tie.InvT-loop
 Inv-loop tally equal refused entry₀ entry = Unit {0}
 
 abbrev μ-loop : tie.MeasureT-loop
-μ-loop tally equal refused entry₀ entry = 32 - entry
+μ-loop tally equal refused entry₀ entry = 38 - entry
 
 loop-holds : tie.Need-loop-holds Inv-loop μ-loop
 loop-holds c = search needs

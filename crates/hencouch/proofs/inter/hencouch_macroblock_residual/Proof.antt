@@ -5,7 +5,8 @@ use lib.IntN.{ℤ}
 use Rattle.refusal.specs.declared.Reply.{Reply}
 use Rattle.refusal.specs.Number.{codeOf}
 use Rattle.refusal.specs.Reply.{done}
-use Rattle.coding.specs.Residual.{samples, sourceOf, residualOf}
+use Rattle.plane.specs.Samples.{samples}
+use Rattle.coding.specs.Residual.{sourceOf, residualOf}
 use Rattle.areas.specs.Numbers.{sizeOf, macroblockAt}
 use borrow.Author.Needs.{needs}
 use Rattle.hencouch.proofs.inter.hencouch_macroblock_residual.Statement.{statement}

@@ -14,7 +14,7 @@ use Rattle.plane.specs.Plane.{planeOf, geometryOf}
 use Rattle.prediction.specs.Luma.{modeOf, predictedBlock}
 use Rattle.plane.specs.Corner.{blockAt}
 use Rattle.areas.specs.Numbers.{vectorOf}
-use Rattle.hencouch.specs.Predicted.{lumaBlockReply}
+use Rattle.predicting.specs.Luma.{lumaBlockReply}
 use borrow.Author.Needs.{needs}
 use Rattle.hencouch.proofs.predicted.hencouch_predict_luma_block.Statement.{statement}
 use Rattle.hencouch.proofs.predicted.hencouch_predict_luma_block.Tie as tie
@@ -25,7 +25,7 @@ module _ (s : tie.Start) where
   replyFor v o =
       let a = s .args in
       let geometry = geometryOf (a .width) (a .height) (a .stride) in
-      lumaBlockReply (a .mode) (a .bits-per-pixel) geometry (length (a .samples .now)) v o (length (a .out .now))
+      lumaBlockReply (a .mode) (a .bits-per-pixel) geometry (length (a .samples .now)) v o (a .rounding) (length (a .out .now))
 
   abbrev blockFor : MotionVector → Site → List ℕ
   blockFor v o =
@@ -53,8 +53,8 @@ vector-of-requires c κs = search needs
 site-of-requires : tie.Need-site-of-requires
 site-of-requires c κs = search needs
 
-predict-block-requires : tie.Need-predict-block-requires
-predict-block-requires c κs = search needs
+predict-luma-block-requires : tie.Need-predict-luma-block-requires
+predict-luma-block-requires c κs = search needs
 
 code-requires : tie.Need-code-requires
 code-requires c κs = search needs
@@ -68,7 +68,7 @@ returns c =
     let o = d .before .before in
     let s = o .before .before .before .before in
     let v = vector-is (o .before) in
-    let e = d .predict-block .ensures in
+    let e = d .predict-luma-block .ensures in
     let r = e .0 ∙ ap₂ (replyFor s) v (site-is o) in
     (c .code .ensures ∙ ap codeOf r, e .1 ∙ λ i. done (r i) (blockFor s (v i) (site-is o i)) (s .args .out .now))
 
@@ -78,7 +78,7 @@ hencouch-predict-luma-block-spec =
     (tie.spec
     vector-of-requires
     site-of-requires
-    predict-block-requires
+    predict-luma-block-requires
     code-requires
     same-length
     returns)

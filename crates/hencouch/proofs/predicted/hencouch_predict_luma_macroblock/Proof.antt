@@ -15,7 +15,7 @@ use Rattle.prediction.specs.declared.PvopMbMotion.the-variants.{OneMv}
 use Rattle.prediction.specs.Luma.{modeOf}
 use Rattle.prediction.specs.Macroblock.{macroblockLuma}
 use Rattle.areas.specs.Numbers.{vectorOf, pointOf}
-use Rattle.hencouch.specs.Predicted.{lumaMacroblockReply}
+use Rattle.predicting.specs.Luma.{lumaMacroblockReply}
 use borrow.Author.Needs.{needs}
 use Rattle.hencouch.proofs.predicted.hencouch_predict_luma_macroblock.Statement.{statement}
 use Rattle.hencouch.proofs.predicted.hencouch_predict_luma_macroblock.Tie as tie
@@ -26,7 +26,7 @@ module _ (s : tie.Start) where
   replyFor m o =
       let a = s .args in
       let geometry = geometryOf (a .width) (a .height) (a .stride) in
-      lumaMacroblockReply (a .mode) (a .bits-per-pixel) geometry (length (a .samples .now)) m o (length (a .out .now))
+      lumaMacroblockReply (a .mode) (a .bits-per-pixel) geometry (length (a .samples .now)) m o (a .rounding) (length (a .out .now))
 
   abbrev lumaFor : PvopMbMotion → Point → List ℕ
   lumaFor m o =
@@ -51,8 +51,8 @@ vector-of-requires c κs = search needs
 point-of-requires : tie.Need-point-of-requires
 point-of-requires c κs = search needs
 
-predict-macroblock-requires : tie.Need-predict-macroblock-requires
-predict-macroblock-requires c κs = search needs
+predict-luma-macroblock-requires : tie.Need-predict-luma-macroblock-requires
+predict-luma-macroblock-requires c κs = search needs
 
 code-requires : tie.Need-code-requires
 code-requires c κs = search needs
@@ -66,7 +66,7 @@ returns c =
     let o = d .before .before in
     let s = o .before .before .before .before in
     let m = ap OneMv (vector-is (o .before)) in
-    let e = d .predict-macroblock .ensures in
+    let e = d .predict-luma-macroblock .ensures in
     let r = e .0 ∙ ap₂ (replyFor s) m (corner-is o) in
     (c .code .ensures ∙ ap codeOf r, e .1 ∙ λ i. done (r i) (lumaFor s (m i) (corner-is o i)) (s .args .out .now))
 
@@ -76,7 +76,7 @@ hencouch-predict-luma-macroblock-spec =
     (tie.spec
     vector-of-requires
     point-of-requires
-    predict-macroblock-requires
+    predict-luma-macroblock-requires
     code-requires
     same-length
     returns)

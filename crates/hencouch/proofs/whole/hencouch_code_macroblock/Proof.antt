@@ -2,7 +2,7 @@
 use mathlib.Core.Path.{ap, _∙_}
 use Rattle.macroblock.specs.declared.Settings.{Settings}
 use Rattle.macroblock.specs.Answer.{answerOf}
-use Rattle.macroblock.specs.Request.{Request, request}
+use Rattle.macroblock.specs.Request.{Request, request, replyOf}
 use Rattle.plane.specs.Plane.{geometryOf}
 use Rattle.areas.specs.Numbers.{sizeOf, macroblockAt, macroblockSettings}
 use Rattle.areas.specs.Whole.{RecordAreas, recordAreas}
@@ -56,7 +56,8 @@ returns c =
     let t = d .before .before .before .before in
     let s = t .before .before .before .before .before .before .before .before .before .before .before in
     let settled = ap (λ (z : Settings). answerOf (askedBy s z)) (t .settings-of .ensures) in
-    record-laid-out (asked s) _ _ _ (lent s) (d .code-macroblock .ensures .0 ∙ settled) (c .code .ensures) (w .write-record .ensures)
+    record-laid-out (replyOf (asked s)) (asked s) _ _ _ (lent s) (d .code-macroblock .ensures .0 ∙ settled)
+    (c .code .ensures) (w .write-record .ensures)
 
 pub hencouch-code-macroblock-spec : {M : Type 1} → statement M
 hencouch-code-macroblock-spec =

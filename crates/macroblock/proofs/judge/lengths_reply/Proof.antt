@@ -10,17 +10,11 @@ both-requires c κs = search needs
 both-requires-2 : tie.Need-both-requires-2
 both-requires-2 c κs = search needs
 
+areas-long-requires : tie.Need-areas-long-requires
+areas-long-requires c κs = search needs
+
 both-requires-3 : tie.Need-both-requires-3
 both-requires-3 c κs = search needs
-
-both-requires-4 : tie.Need-both-requires-4
-both-requires-4 c κs = search needs
-
-both-requires-5 : tie.Need-both-requires-5
-both-requires-5 c κs = search needs
-
-both-requires-6 : tie.Need-both-requires-6
-both-requires-6 c κs = search needs
 
 unless-requires : tie.Need-unless-requires
 unless-requires c κs = search needs
@@ -35,9 +29,7 @@ lengths-reply-spec =
     (tie.spec
     both-requires
     both-requires-2
+    areas-long-requires
     both-requires-3
-    both-requires-4
-    both-requires-5
-    both-requires-6
     unless-requires
     returns)

@@ -1,13 +1,7 @@
 -- `macroblock::ready::code_ready` meets its contract. Assumes nothing.
-use Prim.Native.Nat.{ℕ}
-use mathlib.Core.List.{List}
-use mathlib.Core.Path.{refl, ap, _∙_}
-use Rattle.record.specs.declared.Record.{Record}
-use Rattle.coding.specs.declared.Patterns.{Patterns}
-use Rattle.coding.specs.Coding.{patternsOf}
-use Rattle.macroblock.specs.declared.Searched.{Searched}
+use mathlib.Core.Path.{refl, _∙_}
 use Rattle.macroblock.specs.Request.{Request, request}
-use Rattle.macroblock.specs.Answer.{recordAt}
+use Rattle.macroblock.specs.Answer.{recordWith, recordAt}
 use Rattle.macroblock.proofs.Accepted.{Accepted, accepted}
 use borrow.Author.Needs.{needs}
 use Rattle.macroblock.proofs.ready.code_ready.Statement.{statement}
@@ -21,19 +15,6 @@ asked s =
 
 known : (s : tie.Start) → Accepted (asked s)
 known s = accepted (asked s) (s .pre)
-
--- the record of what was found, the patterns and the counts
-abbrev recordWith : Searched → Patterns → List ℕ → Record
-recordWith found patterns counts =
-    record {
-      vector = found .vector;
-      sum = found .sum;
-      vectors = found .vectors;
-      sums = found .sums;
-      «luma_pattern» = patterns .luma;
-      «chroma_pattern» = patterns .chroma;
-      counts = counts;
-    }
 
 search-vectors-requires : tie.Need-search-vectors-requires
 search-vectors-requires c κs =
@@ -51,8 +32,8 @@ code-residual-requires c κs =
       levels-long = l .levels;
     }
 
-inter-cbp-requires : tie.Need-inter-cbp-requires
-inter-cbp-requires c κs = search needs
+record-with-requires : tie.Need-record-with-requires
+record-with-requires c κs = search needs
 
 same-length : tie.Need-same-length
 same-length c = search needs
@@ -66,13 +47,11 @@ same-length-3 c = search needs
 returns : tie.Need-returns
 unfolding recordAt
 returns c =
-    let p = c .before .before .before in
-    let k = p .before .before .before .before .before .before in
+    let k = c .before .before .before .before .before .before in
     let v = k .before .before .before .before in
     let counts = k .code-residual .ensures .0 in
-    let found = v .search-vectors .ensures in
-    let patterns = p .inter-cbp .ensures ∙ ap patternsOf counts in (
-      λ i. recordWith (found i) (patterns i) (counts i),
+    let found = v .search-vectors .ensures in (
+      c .record-with .ensures ∙ (λ i. recordWith (found i) (counts i)),
       k .code-residual .ensures .1,
     )
 
@@ -82,7 +61,7 @@ code-ready-spec =
     (tie.spec
     search-vectors-requires
     code-residual-requires
-    inter-cbp-requires
+    record-with-requires
     same-length
     same-length-2
     same-length-3

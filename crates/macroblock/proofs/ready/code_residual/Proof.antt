@@ -6,7 +6,8 @@ use lib.ListN.{length}
 use Rattle.refusal.specs.declared.Reply.the-variants.{Done}
 use Rattle.refusal.proofs.Replies.{left}
 use Rattle.coding.specs.declared.Counted.{Counted}
-use Rattle.coding.specs.Residual.{Samples, samples, sourceOf, residualOf}
+use Rattle.plane.specs.Samples.{Samples, samples}
+use Rattle.coding.specs.Residual.{sourceOf, residualOf}
 use Rattle.coding.specs.Coding.{Quantising, quantisingOf, countsOf, areasOf}
 use Rattle.coding.proofs.SixBlocks.{residual-length}
 use Rattle.coding.proofs.Taken.{residual-taken, coding-taken}

@@ -8,7 +8,7 @@ use Rattle.record.specs.Zero.{zeroVector}
 use Rattle.plane.specs.declared.Point.{Point}
 use Rattle.plane.specs.Plane.{planeOf}
 use Rattle.plane.specs.Corner.{squareAt}
-use Rattle.prediction.specs.Luma.{predictedBlock, predictReply}
+use Rattle.prediction.specs.Luma.{predictedBlock, interpolationReply}
 use borrow.Author.Needs.{needs}
 use Rattle.prediction.proofs.blocks.predict_block.Statement.{statement}
 use Rattle.prediction.proofs.blocks.predict_block.Tie as tie
@@ -22,8 +22,8 @@ array-copy-out-v c = search needs
 block-corner-requires : tie.Need-block-corner-requires
 block-corner-requires c κs = search needs
 
-predict-luma-block-requires : tie.Need-predict-luma-block-requires
-predict-luma-block-requires c κs = search needs
+interpolate-block-requires : tie.Need-interpolate-block-requires
+interpolate-block-requires c κs = search needs
 
 same-length : tie.Need-same-length
 same-length c = search needs
@@ -37,10 +37,10 @@ returns c =
     let v = getD (a .t4) (a .k) zeroVector in
     let p = planeOf (a .samples .now) (a .geometry) in
     let e = b .block-corner .ensures in
-    f .predict-luma-block .ensures .1
+    f .interpolate-block .ensures .1
     ∙ ap (λ (r : Reply). done r (predictedBlock (a .mode) p (squareAt (b .block-corner .result) 8) (a .rounding) v) (a .out .now))
-    (f .predict-luma-block .ensures .0
-    ∙ ap₂ (λ (o : Point) (n : ℕ). predictReply (a .mode) (a .geometry) (length (a .samples .now)) v (squareAt o 8) n) e (s .pre .2)
+    (f .interpolate-block .ensures .0
+    ∙ ap₂ (λ (o : Point) (n : ℕ). interpolationReply (a .mode) (a .geometry) (length (a .samples .now)) v (squareAt o 8) n) e (s .pre .2)
     ∙ s .pre .0 .each (a .k) (s .pre .1))
     ∙ ap (λ (o : Point). predictedBlock (a .mode) p (squareAt o 8) (a .rounding) v) e
 
@@ -51,6 +51,6 @@ predict-block-spec =
     mul-v
     array-copy-out-v
     block-corner-requires
-    predict-luma-block-requires
+    interpolate-block-requires
     same-length
     returns)

@@ -13,7 +13,8 @@ use borrow.Author.Tests.{eq-eqb, ne-eqb}
 use Rattle.basis.proofs.Case.{then, else}
 use Rattle.basis.proofs.Signed.{of-bits}
 use Rattle.basis.specs.Cut.{cutTo}
-use Rattle.quantise.specs.Level.{signed, inverseSize, inverseByQuantiser}
+use Rattle.basis.specs.Signed.{signed}
+use Rattle.quantise.specs.Level.{inverseSize, inverseByQuantiser}
 use Rattle.quantise.proofs.Signs.{minus-signed, plus-signed, minus-fits, minus-read, inverse-most}
 use borrow.Author.Needs.{needs}
 use Rattle.quantise.proofs.level.inverse_quant_method2_coef.Statement.{statement}

@@ -9,7 +9,8 @@ use mir.ValLaws.{toZ-ofZ}
 use Rattle.basis.proofs.Bounds.{product-le, product-pos}
 use Rattle.basis.proofs.Signed.{of-bits}
 use Rattle.basis.specs.Cut.{cutTo}
-use Rattle.quantise.specs.Level.{signed, levelByWeight}
+use Rattle.basis.specs.Signed.{signed}
+use Rattle.quantise.specs.Level.{levelByWeight}
 use Rattle.quantise.proofs.Signs.{quot-fits, quot-value, sixteen-size, sixteen-fits, sixteen-sign}
 use borrow.Author.Needs.{needs}
 use Rattle.quantise.proofs.level.quantise_method1_inter.Statement.{statement}

@@ -7,7 +7,8 @@ use lib.Signed.{ltZ}
 use mir.Syntax.{w32}
 use mir.Val.{toZ, ofZ}
 use mir.ValLaws.{toZ-ofZ, toZ-pos}
-use Rattle.quantise.specs.Level.{signed, quotientByQuantiser, levelByQuantiser}
+use Rattle.basis.specs.Signed.{signed}
+use Rattle.quantise.specs.Level.{quotientByQuantiser, levelByQuantiser}
 use Rattle.quantise.proofs.Reciprocal.{halved-quotient, halved-product}
 use Rattle.quantise.proofs.Signs.{signed-cut, minus-signed, plus-signed, minus-fits, minus-read}
 use borrow.Author.Needs.{needs}

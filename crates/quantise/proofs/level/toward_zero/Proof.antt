@@ -8,7 +8,7 @@ use mir.Val.{SFits, toZ, ofZ}
 use mir.ValLaws.{toZ-ofZ, toZ-pos}
 use Rattle.basis.proofs.Signed.{of-bits, negative-fits, negative-read}
 use Rattle.basis.specs.Cut.{cutTo}
-use Rattle.quantise.specs.Level.{signed}
+use Rattle.basis.specs.Signed.{signed}
 use Rattle.quantise.proofs.Signs.{signed-fits, toward-is}
 use borrow.Author.Needs.{needs}
 use Rattle.quantise.proofs.level.toward_zero.Statement.{statement}

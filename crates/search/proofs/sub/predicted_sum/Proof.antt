@@ -19,8 +19,8 @@ blockAt s =
     let t = a .target in
     predictedBlock (a .settings .mode) (planeOf (a .reference .now) (t .geometry)) (squareAt (t .corner) (t .side)) (a .settings .rounding) (a .vector)
 
-predict-luma-block-requires : tie.Need-predict-luma-block-requires
-predict-luma-block-requires c κs = search needs
+interpolate-block-requires : tie.Need-interpolate-block-requires
+interpolate-block-requires c κs = search needs
 
 block-sum-requires : tie.Need-block-sum-requires
 block-sum-requires c κs = search needs
@@ -34,11 +34,11 @@ returns c =
     let s = f .before .before .before .before .before .before .before in
     let a = s .args in
     let d =
-    f .predict-luma-block .ensures .0
+    f .interpolate-block .ensures .0
     ∙ predicted-done (a .source .now) (a .reference .now) (a .target) (a .settings) (a .vector) (s .pre .0) _ (s .pre .1) in
-    let n = f .predict-luma-block .ensures .1 ∙ ap (λ (r : Reply). done r (blockAt s) (a .predicted .now)) d in
+    let n = f .interpolate-block .ensures .1 ∙ ap (λ (r : Reply). done r (blockAt s) (a .predicted .now)) d in
     c .block-sum .ensures ∙ predicted-sum (a .source .now) (a .reference .now) (a .target) (a .settings) (a .vector) (s .pre .0) _ n
 
 pub predicted-sum-spec : {M : Type 1} → statement M
 predicted-sum-spec =
-    tie.close (tie.spec predict-luma-block-requires block-sum-requires same-length returns)
+    tie.close (tie.spec interpolate-block-requires block-sum-requires same-length returns)

@@ -1,0 +1,4 @@
+pub mod Mode
+pub mod Luma
+pub mod Chroma
+pub mod Samples
