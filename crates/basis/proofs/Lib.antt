@@ -9,6 +9,7 @@ pub mod Least
 pub mod Lists
 pub mod Parts
 pub mod Signed
+pub mod Sizes
 pub mod Slices
 pub mod Small
 pub mod Sums

@@ -8,8 +8,9 @@ use lib.IntN.{ℤ, pos, negsuc, natAbs, _+ℤ_, _*ℤ_}
 use lib.Signed.{shrZ}
 use Rattle.basis.specs.Division.{restZ}
 use Rattle.basis.proofs.Case.{both}
+use Rattle.basis.proofs.Sizes.{size-add, size-times, size-signed}
 use Rattle.refusal.specs.Test.{inRange}
-use Rattle.refusal.proofs.Tests.{and-left, and-right}
+use Rattle.refusal.proofs.Tests.{and-left, and-right, size-in}
 use Rattle.record.specs.declared.MotionVector.{MotionVector}
 use Rattle.plane.specs.Reference.{vectorInRange}
 use Rattle.prediction.specs.declared.BVopSampleMode.{BVopSampleMode}
@@ -17,14 +18,14 @@ use Rattle.prediction.specs.declared.BVopSampleMode.the-variants.{HalfPe
 use Rattle.prediction.specs.declared.PvopMbMotion.{PvopMbMotion}
 use Rattle.prediction.specs.declared.PvopMbMotion.the-variants.{OneMv, FourMv}
 use Rattle.prediction.specs.Chroma.{inHalves, chromaOfOne, halvesOf, chromaOfSum, chromaVector, motionInRange}
-use Rattle.prediction.proofs.Sizes.{size-in, in-size, size-add, size-twice, size-quarter, size-half, size-signed}
+use Rattle.prediction.proofs.Sizes.{in-size, size-quarter, size-half}
 
 -- both parts of a vector
 pub part-x : (v : MotionVector) → vectorInRange v ≡ true → natAbs (v .x) ≤ 2048
-part-x v e = size-in (v .x) (and-left _ _ e)
+part-x v e = size-in 2047 2047 (v .x) (and-left _ _ e) (omega arith)
 
 pub part-y : (v : MotionVector) → vectorInRange v ≡ true → natAbs (v .y) ≤ 2048
-part-y v e = size-in (v .y) (and-right (inRange (negsuc 2047) (pos 2047) (v .x)) _ e)
+part-y v e = size-in 2047 2047 (v .y) (and-right (inRange (negsuc 2047) (pos 2047) (v .x)) _ e) (omega arith)
 
 -- each of four vectors
 module _ (a b c d : MotionVector) (e : motionInRange (FourMv a b c d) ≡ true) where
@@ -76,8 +77,8 @@ pub one-size : (z : ℤ) → natAbs z ≤ 2048 → natAbs (chromaOfOne z) ≤ 10
 one-size z h = by (eqb (restZ z 4) 0)
   where
     by : (t : Bool) → natAbs (shrZ z 4 *ℤ pos 2 +ℤ pos (cond t 0 1)) ≤ 1025
-    by true = omega (arith, size-quarter z h, size-twice (shrZ z 4), size-add (shrZ z 4 *ℤ pos 2) (pos 0))
-    by false = omega (arith, size-quarter z h, size-twice (shrZ z 4), size-add (shrZ z 4 *ℤ pos 2) (pos 1))
+    by true = omega (arith, size-quarter z h, size-times (shrZ z 4) 2, size-add (shrZ z 4 *ℤ pos 2) (pos 0))
+    by false = omega (arith, size-quarter z h, size-times (shrZ z 4) 2, size-add (shrZ z 4 *ℤ pos 2) (pos 1))
 
 pub of-sum-size : (z : ℤ) → natAbs z ≤ 8192 → natAbs (chromaOfSum z) ≤ 1026
 of-sum-size z h = omega (arith, size-signed z (2 * (natAbs z / 16) + halvesOf (natAbs z % 16)), sum-size z h)

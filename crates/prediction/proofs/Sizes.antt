@@ -1,34 +1,23 @@
--- Sizes of signed numbers: of what lies in a range, of sums, products and quotients, and that a small number is read back from its 32 bits.
+-- Sizes of components: what is small lies in the range of vectors, quotients are smaller, and sums are read back from their 32 bits.
 -- Assumes nothing.
-use Prim.Native.Nat.{ℕ, _+_, _*_, _≤_}
+use Prim.Native.Nat.{_≤_}
 use native.Mathlib.Omega.{arith}
-use mathlib.Core.Bool.{true, false}
-use mathlib.Core.Path.{_≡_, refl, sym, ap₂, _∙_, subst}
-use lib.IntN.{ℤ, pos, negsuc, negℤ, natAbs, _+ℤ_, _*ℤ_}
-use lib.Signed.{ltZ, shrZ, quotZ}
+use mathlib.Core.Bool.{true}
+use mathlib.Core.Path.{_≡_, sym, ap₂, subst}
+use lib.IntN.{ℤ, pos, negsuc, natAbs, _+ℤ_}
+use lib.Signed.{shrZ, quotZ}
 use mir.Syntax.{w32}
 use mir.Val.{SFits, toZ, ofZ}
 use mir.ValLaws.{toZ-ofZ}
-use Rattle.basis.specs.Signed.{signed}
-use Rattle.basis.proofs.Parts.{sides, size-parts, above-add, below-add, above-mul, below-mul, above-neg, below-neg, parts-fit}
+use Rattle.basis.proofs.Parts.{size-parts, parts-fit}
 use Rattle.basis.proofs.Parts.{above-shr, below-shr, above-quot, below-quot}
-use Rattle.basis.proofs.Signed.{lt-true, lt-false}
+use Rattle.basis.proofs.Sizes.{size-add}
 use Rattle.refusal.specs.Test.{inRange}
-use Rattle.refusal.proofs.Tests.{range-low, range-high, range-is}
+use Rattle.refusal.proofs.Tests.{range-is}
 
--- a size from a range, and back
-pub size-in : (z : ℤ) → inRange (negsuc 2047) (pos 2047) z ≡ true → natAbs z ≤ 2048
-size-in z e = omega (arith, size-parts z, range-low (negsuc 2047) (pos 2047) z e, range-high (negsuc 2047) (pos 2047) z e, sides z)
-
+-- small is in range
 pub in-size : (z : ℤ) → natAbs z ≤ 2047 → inRange (negsuc 2047) (pos 2047) z ≡ true
 in-size z h = range-is (negsuc 2047) (pos 2047) z (omega (arith, size-parts z)) (omega (arith, size-parts z))
-
--- a sum is no larger than its terms' sizes together
-pub size-add : (x y : ℤ) → natAbs (x +ℤ y) ≤ natAbs x + natAbs y
-size-add x y = omega (arith, size-parts (x +ℤ y), size-parts x, size-parts y, above-add x y, below-add x y)
-
-pub size-twice : (z : ℤ) → natAbs (z *ℤ pos 2) ≡ 2 * natAbs z
-size-twice z = size-parts (z *ℤ pos 2) ∙ omega (arith, size-parts z, above-mul z 2, below-mul z 2)
 
 -- a quarter, rounded down
 pub size-quarter : (z : ℤ) → natAbs z ≤ 2048 → natAbs (shrZ z 4) ≤ 512
@@ -37,19 +26,6 @@ size-quarter z h = omega (arith, size-parts z, size-parts (shrZ z 4), above-shr 
 -- a half, toward zero
 pub size-half : (z : ℤ) → natAbs (quotZ z (pos 2)) ≤ natAbs z
 size-half z = omega (arith, size-parts z, size-parts (quotZ z (pos 2)), above-quot z 2, below-quot z 2)
-
--- a number with a sign put on
-pub size-signed : (z : ℤ) (n : ℕ) → natAbs (signed z n) ≡ n
-size-signed (pos a) n = refl
-size-signed (negsuc a) n = size-parts (negℤ (pos n)) ∙ omega (arith, above-neg (pos n), below-neg (pos n))
-
-pub signed-below : (z : ℤ) (n : ℕ) → ltZ z (pos 0) ≡ true → negℤ (pos n) ≡ signed z n
-signed-below (pos a) n t = absurd (omega (arith, lt-true (pos a) (pos 0) t))
-signed-below (negsuc a) n t = refl
-
-pub signed-above : (z : ℤ) (n : ℕ) → ltZ z (pos 0) ≡ false → pos n ≡ signed z n
-signed-above (pos a) n t = refl
-signed-above (negsuc a) n t = absurd (omega (arith, lt-false (negsuc a) (pos 0) t))
 
 -- a small number fits 32 bits
 pub size-fits : (z : ℤ) → natAbs z ≤ 16384 → SFits w32 z

@@ -17,7 +17,7 @@ use Rattle.refusal.proofs.Every.{every-at}
 use Rattle.refusal.proofs.Replies.{first-done, then-done, unless-done, after, passed, both-done}
 use Rattle.refusal.proofs.Tests.{and-left, and-right, between-low, between-high}
 use Rattle.quantise.specs.Block.{noZero, weightReply, quantiseReply, inverseReply}
-use Rattle.quantise.proofs.Signs.{size-in}
+use Rattle.refusal.proofs.Tests.{size-in}
 
 not-zero : (w : ℕ) → not (eqb w 0) ≡ true → 1 ≤ w
 not-zero w e = omega (arith, some)

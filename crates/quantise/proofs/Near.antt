@@ -23,7 +23,9 @@ use Rattle.basis.specs.Signed.{signed}
 use Rattle.quantise.specs.Level.{quotientByQuantiser, levelByQuantiser, inverseSize, inverseByQuantiser}
 use Rattle.quantise.specs.Near.{tolerance, Near, NearAll}
 use Rattle.quantise.proofs.Accepted.{sound}
-use Rattle.quantise.proofs.Signs.{size-in, signed-cut, cut-above, cut-below}
+use Rattle.basis.proofs.Sizes.{size-signed}
+use Rattle.refusal.proofs.Tests.{size-in}
+use Rattle.quantise.proofs.Signs.{signed-cut, cut-above, cut-below}
 
 -- a case for each outcome of a test, with the outcome
 by-test : (P : ℕ → Type 0) (t : Bool) (x y : ℕ) → (t ≡ true → P x) → (t ≡ false → P y) → P (cond t x y)
@@ -104,11 +106,7 @@ module _ (f : ℤ) (r i : ℕ) (range : inRange (negsuc 2047) (pos 2047) f ≡ t
           subst (λ (z : ℤ). natAbs (z -ℤ negsuc a) ≤ r) (sym (cut-below (pos 2047) i 2048 refl))
           (difference (negℤ (pos (min i 2048))) (negsuc a) r (omega arith) (omega arith))
 
--- a sign on a size: the size, and the sign again
-size-signed : (f : ℤ) (m : ℕ) → natAbs (signed f m) ≡ m
-size-signed (pos a) m = refl
-size-signed (negsuc a) m = size-parts (negℤ (pos m)) ∙ omega (arith, above-neg (pos m), below-neg (pos m))
-
+-- a sign on a size: the sign again
 sign-signed : (f : ℤ) (m i : ℕ) → 0 < m → signed (signed f m) i ≡ signed f i
 sign-signed (pos a) m i h = refl
 sign-signed (negsuc a) zero i h = absurd (omega arith)

@@ -15,16 +15,10 @@ use Rattle.basis.proofs.Bounds.{product-le}
 use Rattle.basis.proofs.Case.{either}
 use Rattle.basis.proofs.Cut.{cut-low, cut-high, cut-none}
 use Rattle.basis.proofs.Parts.{ext, sides, size-parts, above-sub, below-sub, above-mul, below-mul, above-neg, below-neg, parts-fit, difference-high}
-use Rattle.basis.proofs.Signed.{lt-true, lt-false}
-use Rattle.refusal.specs.Test.{inRange}
-use Rattle.refusal.proofs.Tests.{range-low, range-high}
+use Rattle.basis.proofs.Sizes.{size-times, signed-below}
 use Rattle.basis.specs.Cut.{cutTo}
 use Rattle.basis.specs.Signed.{signed}
 use Rattle.quantise.specs.Level.{inverseSize}
-
--- a size from a range
-pub size-in : (a b : ℕ) (z : ℤ) → inRange (negsuc a) (pos b) z ≡ true → b ≤ suc a → natAbs z ≤ suc a
-size-in a b z e h = omega (arith, size-parts z, range-low (negsuc a) (pos b) z e, range-high (negsuc a) (pos b) z e, sides z)
 
 -- x less what of it lies within d on either side: x moved toward 0 by d
 pub toward-is : (x : ℤ) (d : ℕ) → x -ℤ cutTo (negℤ (pos d)) (pos d) x ≡ signed x (natAbs x - d)
@@ -75,7 +69,7 @@ inverse-most q l h k = by (eqb (q % 2) 0) (product-le {a = q} {b = 2 * l + 1} {m
 
 -- sixteen times a coefficient
 pub sixteen-size : (f : ℤ) → natAbs (f *ℤ pos 16) ≡ 16 * natAbs f
-sixteen-size f = size-parts (f *ℤ pos 16) ∙ omega (arith, size-parts f, above-mul f 16, below-mul f 16)
+sixteen-size f = size-times f 16 ∙ omega arith
 
 pub sixteen-fits : (f : ℤ) → natAbs f ≤ 2048 → SFits w32 (f *ℤ pos 16)
 sixteen-fits f h = parts-fit (f *ℤ pos 16) (omega (arith, size-parts f, above-mul f 16)) (omega (arith, size-parts f, below-mul f 16))
@@ -93,12 +87,7 @@ sixteen-sign (negsuc a) m = ap (λ (z : ℤ). signed z m) (below-negative (suc a
 
 -- a sign put on
 pub minus-signed : (f : ℤ) (m : ℕ) → ltZ f (pos 0) ≡ true → pos 0 -ℤ pos m ≡ signed f m
-minus-signed (pos a) m t = absurd (omega (arith, lt-true (pos a) (pos 0) t))
-minus-signed (negsuc a) m t = +ℤ-idl (negℤ (pos m))
-
-pub plus-signed : (f : ℤ) (m : ℕ) → ltZ f (pos 0) ≡ false → pos m ≡ signed f m
-plus-signed (pos a) m t = refl
-plus-signed (negsuc a) m t = absurd (omega (arith, lt-false (negsuc a) (pos 0) t))
+minus-signed f m t = +ℤ-idl (negℤ (pos m)) ∙ signed-below f m t
 
 module _ (m : ℕ) (h : m ≤ 126945) where
   pub minus-read : pos 0 -ℤ toZ w32 m ≡ pos 0 -ℤ pos m

@@ -1,9 +1,10 @@
 -- What a test that held tells. Assumes nothing.
-use Prim.Native.Nat.{ℕ, _+_, _≤_, _<_, _^_}
+use Prim.Native.Nat.{ℕ, suc, _+_, _≤_, _<_, _^_}
+use native.Mathlib.Omega.{arith}
 use mathlib.Core.Bool.{Bool, true, false, _&&_, _||_}
 use mathlib.Core.Path.{_≡_, refl, ap, _∙_}
 use lib.Dec.{leb}
-use lib.IntN.{ℤ}
+use lib.IntN.{ℤ, pos, negsuc, natAbs}
 use lib.Signed.{leZ, mag}
 use mir.Syntax.{w32}
 use mir.Val.{toZ, ofZ}
@@ -12,6 +13,7 @@ use Rattle.basis.specs.Cut.{cutTo}
 use Rattle.basis.specs.Parts.{above, below}
 use Rattle.basis.proofs.Case.{both}
 use Rattle.basis.proofs.Cut.{cut-none, cut-least, cut-most}
+use Rattle.basis.proofs.Parts.{sides, size-parts}
 use Rattle.basis.proofs.Signed.{le-true, le-is, of-bits}
 use Rattle.refusal.specs.Test.{between, inRange}
 
@@ -43,6 +45,10 @@ range-high low high z e = le-true z high (and-right (leZ low z) (leZ z high) e)
 -- and back
 pub range-is : (low high z : ℤ) → above low + below z ≤ above z + below low → above z + below high ≤ above high + below z → inRange low high z ≡ true
 range-is low high z h k = both (le-is low z h) (le-is z high k)
+
+-- how large a number of a range is
+pub size-in : (a b : ℕ) (z : ℤ) → inRange (negsuc a) (pos b) z ≡ true → b ≤ suc a → natAbs z ≤ suc a
+size-in a b z e h = omega (arith, size-parts z, range-low (negsuc a) (pos b) z e, range-high (negsuc a) (pos b) z e, sides z)
 
 -- of a signed field, which is read back from its bits
 pub range-read : (low high z : ℤ) → mag z < 2 ^ 31 → inRange low high z ≡ true → inRange low high (toZ w32 (ofZ w32 z)) ≡ true

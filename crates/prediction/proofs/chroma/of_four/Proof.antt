@@ -9,7 +9,8 @@ use mir.ValLaws.{toZ-ofZ}
 use Rattle.prediction.specs.declared.BVopSampleMode.{BVopSampleMode}
 use Rattle.prediction.specs.Chroma.{inHalves, chromaOfSum}
 use Rattle.prediction.proofs.ChromaRange.{halves-in, of-sum-size}
-use Rattle.prediction.proofs.Sizes.{size-add, size-read, sum-is, sum-fits}
+use Rattle.basis.proofs.Sizes.{size-add}
+use Rattle.prediction.proofs.Sizes.{size-read, sum-is, sum-fits}
 use borrow.Author.Needs.{needs}
 use Rattle.prediction.proofs.chroma.of_four.Statement.{statement}
 use Rattle.prediction.proofs.chroma.of_four.Tie as tie

@@ -14,7 +14,8 @@ use Rattle.basis.proofs.Case.{then, else}
 use Rattle.quarter_sample.specs.declared.QuarterPel.{QuarterPel}
 use Rattle.quarter_sample.specs.Split.{splitQuarter}
 use Rattle.prediction.specs.Chroma.{chromaOfOne}
-use Rattle.prediction.proofs.Sizes.{size-add, size-twice, size-quarter, size-fits, size-read}
+use Rattle.basis.proofs.Sizes.{size-add, size-times}
+use Rattle.prediction.proofs.Sizes.{size-quarter, size-fits, size-read}
 use borrow.Author.Needs.{needs}
 use Rattle.prediction.proofs.chroma.of_one.Statement.{statement}
 use Rattle.prediction.proofs.chroma.of_one.Tie as tie
@@ -33,7 +34,7 @@ module _ (c : tie.After-split-quarter-pel) where
       ∙ ap (λ (z : ℤ). z *ℤ pos 2) (size-read whole (omega (arith, size-quarter (c .before .args .mv) (c .before .pre))))
 
   twice-size : natAbs (whole *ℤ pos 2) ≤ 1024
-  twice-size = omega (arith, size-twice whole, size-quarter (c .before .args .mv) (c .before .pre))
+  twice-size = omega (arith, size-times whole 2, size-quarter (c .before .args .mv) (c .before .pre))
 
   twice-read : toZ w32 (ofZ w32 (toZ w32 (ofZ w32 (c .split-quarter-pel .result .whole)) *ℤ pos 2)) ≡ whole *ℤ pos 2
   twice-read = ap (λ (z : ℤ). toZ w32 (ofZ w32 z)) whole-is ∙ size-read (whole *ℤ pos 2) (omega (arith, twice-size))

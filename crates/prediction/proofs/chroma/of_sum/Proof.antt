@@ -11,7 +11,7 @@ use Rattle.basis.specs.Signed.{signed}
 use Rattle.basis.proofs.Signed.{negative-fits, negative-read}
 use Rattle.prediction.specs.Chroma.{halvesOf}
 use Rattle.prediction.proofs.ChromaRange.{sum-size}
-use Rattle.prediction.proofs.Sizes.{signed-below, signed-above}
+use Rattle.basis.proofs.Sizes.{signed-below, signed-above}
 use borrow.Author.Needs.{needs}
 use Rattle.prediction.proofs.chroma.of_sum.Statement.{statement}
 use Rattle.prediction.proofs.chroma.of_sum.Tie as tie

@@ -15,7 +15,8 @@ use Rattle.basis.proofs.Signed.{of-bits}
 use Rattle.basis.specs.Cut.{cutTo}
 use Rattle.basis.specs.Signed.{signed}
 use Rattle.quantise.specs.Level.{inverseSize, inverseByQuantiser}
-use Rattle.quantise.proofs.Signs.{minus-signed, plus-signed, minus-fits, minus-read, inverse-most}
+use Rattle.basis.proofs.Sizes.{signed-above}
+use Rattle.quantise.proofs.Signs.{minus-signed, minus-fits, minus-read, inverse-most}
 use borrow.Author.Needs.{needs}
 use Rattle.quantise.proofs.level.inverse_quant_method2_coef.Statement.{statement}
 use Rattle.quantise.proofs.level.inverse_quant_method2_coef.Tie as tie
@@ -86,7 +87,7 @@ returns-3 c =
     ∙ c .clamp2 .ensures
     ∙ ap (cutTo (negsuc 2047) (pos 2047))
     (toZ-pos w32 (z .inverse-size .result) (omega (arith, size-most z))
-    ∙ plus-signed (s .args .level) _ (sym (ap (λ (v : ℤ). ltZ v (pos 0)) (level-is s)) ∙ t .if2 .left)
+    ∙ signed-above (s .args .level) _ (sym (ap (λ (v : ℤ). ltZ v (pos 0)) (level-is s)) ∙ t .if2 .left)
     ∙ ap (signed (s .args .level)) (size-is z))
     ∙ sym (else _ _ _ (some (z .before)))
 

@@ -10,7 +10,8 @@ use mir.ValLaws.{toZ-ofZ, toZ-pos}
 use Rattle.basis.specs.Signed.{signed}
 use Rattle.quantise.specs.Level.{quotientByQuantiser, levelByQuantiser}
 use Rattle.quantise.proofs.Reciprocal.{halved-quotient, halved-product}
-use Rattle.quantise.proofs.Signs.{signed-cut, minus-signed, plus-signed, minus-fits, minus-read}
+use Rattle.basis.proofs.Sizes.{signed-above}
+use Rattle.quantise.proofs.Signs.{signed-cut, minus-signed, minus-fits, minus-read}
 use borrow.Author.Needs.{needs}
 use Rattle.quantise.proofs.level.quantise_method2_inter.Statement.{statement}
 use Rattle.quantise.proofs.level.quantise_method2_inter.Tie as tie
@@ -80,7 +81,7 @@ returns-2 c =
     let z = c .before in
     let s = z .before .before in
     toZ-pos w32 (sizeOf z) (omega (arith, size-most z))
-    ∙ plus-signed (s .args .f) _ (sym (ap (λ (v : ℤ). ltZ v (pos 0)) (f-is s)) ∙ c .if1 .left)
+    ∙ signed-above (s .args .f) _ (sym (ap (λ (v : ℤ). ltZ v (pos 0)) (f-is s)) ∙ c .if1 .left)
     ∙ level-is (s .args .quantiser-scale) (s .args .f) _ (size-is z) (size-most z)
 
 pub quantise-method2-inter-spec : {M : Type 1} → statement M
