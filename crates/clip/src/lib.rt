@@ -14,7 +14,7 @@ use refusal::{Refusal, Reply};
 mod write;
 
 // What a header says, under the names of the standard and of the rules (rule W1).
-#[derive(Drop)]
+#[derive(Clone, Copy)]
 pub struct Head {
     pub width: usize,
     pub height: usize,
@@ -25,21 +25,21 @@ pub struct Head {
 }
 
 // The reply, and what the header says, all 0 where it is refused.
-#[derive(Drop)]
+#[derive(Clone, Copy)]
 pub struct Header {
     pub reply: Reply,
     pub head: Head,
 }
 
 // How many bytes a plane has.
-#[derive(Drop)]
+#[derive(Clone, Copy)]
 pub struct PlaneLengths {
     pub luma: usize,
     pub chroma: usize,
 }
 
 // Text in the first `len` of the bytes; the rest is 0. No line is longer.
-#[derive(Drop)]
+#[derive(Clone, Copy)]
 pub struct Text {
     pub bytes: [u8; 198],
     pub len: usize,

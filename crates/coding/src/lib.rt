@@ -16,14 +16,14 @@ mod events;
 mod residual;
 
 // Block 0 is the luma pattern's bit worth 8, block 3 worth 1; Cb is the chroma pattern's bit worth 2, Cr worth 1.
-#[derive(Drop)]
+#[derive(Clone, Copy)]
 pub struct Patterns {
     pub luma: u8,
     pub chroma: u8,
 }
 
 // The reply, and how many events each of the six blocks has, all 0 where the call is refused.
-#[derive(Drop)]
+#[derive(Clone, Copy)]
 pub struct Counted {
     pub reply: Reply,
     pub counts: [u8; 6],

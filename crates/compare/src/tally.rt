@@ -4,7 +4,7 @@ ghost use Rattle.std.specs.Prelude.{◌<◌};
 use libc::STDOUT_FILENO;
 
 // By the entry's number; 0 for a call of no entry.
-#[derive(Drop)]
+#[derive(Clone, Copy)]
 pub struct Tally {
     pub calls: u64,
     pub equal: [u64; 38],
@@ -12,7 +12,7 @@ pub struct Tally {
 }
 
 // Whether there was a call, and what is counted with it.
-#[derive(Drop)]
+#[derive(Clone, Copy)]
 struct Turn {
     more: bool,
     tally: Tally,

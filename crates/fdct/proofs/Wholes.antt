@@ -15,7 +15,7 @@ use lib.IntN.{ℤ, pos, negsuc}
 use lib.Pow.{pow-add, pow_pos, pow_mono}
 use lib.Ieee.{Float, nan, inf, fin, binary64, up, down, size, nearest, units, round, neg, add, sub, sum, le, lt, eq, fits, in_signed, to_signed, in_float, of_int}
 use lib.Ieee.Digits.{size-lt, size-le}
-use lib.Ieee.Fits.{core, round_is, nearest-le, down_pos, add_fits, of_int-fits}
+use lib.Ieee.Fits.{core, round_is, nearest-le, down_pos, add-fits, of_int-fits}
 use lib.Ieee.Exact.{HasValue, units_val, round_exact}
 use lib.Ieee.Nearest.{closest, closest_same, nearest-ge}
 use lib.Ieee.Order.{le_of_values}
@@ -270,12 +270,12 @@ cast_at s m e z r = by (le (add binary64 t half_double) (fin s m e)) refl
     by : (b : Bool) → le (add binary64 t half_double) (fin s m e) ≡ b → Cast (fin s m e)
     by true k =
         told (add binary64 t one_double) (r.at + 1) (ap (add binary64 t) (sym (then _ _ _ k)))
-        (cast_whole _ (r.at + 1) (add_fits binary64 t one_double)
+        (cast_whole _ (r.at + 1) (add-fits binary64 t one_double)
         (whole_added t r.at 1 (le_trans (let n : r.at + 1 ≤ 4097 = omega (arith, r.small) in n) (lit≤ tt)) r.is) (omega (arith, r.small)))
         (upward (m * up e) (down e) r.at (down_pos e) r.near (reached (add binary64 t half_double) (2 * r.at + 1) 2 s m e lifted k))
     by false k =
         told (add binary64 t zero_double) (r.at + 0) (ap (add binary64 t) (sym (else _ _ _ k)))
-        (cast_whole _ (r.at + 0) (add_fits binary64 t zero_double)
+        (cast_whole _ (r.at + 0) (add-fits binary64 t zero_double)
         (whole_added t r.at 0 (le_trans (let n : r.at + 0 ≤ 4097 = omega (arith, r.small) in n) (lit≤ tt)) r.is) (omega (arith, r.small)))
         (downward (m * up e) (down e) r.at (down_pos e) r.near (missed (add binary64 t half_double) (2 * r.at + 1) 2 s m e (omega arith) (lit< tt) lifted z k)
         ∙ let n : r.at ≡ r.at + 0 = omega arith in n)

@@ -15,14 +15,14 @@ mod rows;
 mod sums;
 
 // A displacement by whole samples, or a vector in vector units, with what it costs.
-#[derive(Drop)]
+#[derive(Clone, Copy)]
 pub struct Scored {
     pub vector: MotionVector,
     pub cost: u32,
 }
 
 // Where a block is searched for: the reference's geometry, where the block's corner stands in it, and the block's side.
-#[derive(Drop)]
+#[derive(Clone, Copy)]
 pub struct Target {
     pub geometry: Geometry,
     pub corner: Point,
@@ -30,7 +30,7 @@ pub struct Target {
 }
 
 // Places in a row: `count` from `from` on, `step` apart, of which those are listed that go `inner` to `outer` samples in either direction.
-#[derive(Drop)]
+#[derive(Clone, Copy)]
 pub struct Row {
     pub from: MotionVector,
     pub step: usize,
@@ -40,7 +40,7 @@ pub struct Row {
 }
 
 // `count` rows of `count` places from `from` on, of which those are listed that go at most `outer` samples in either direction.
-#[derive(Drop)]
+#[derive(Clone, Copy)]
 pub struct Square {
     pub from: MotionVector,
     pub count: usize,
@@ -48,14 +48,14 @@ pub struct Square {
 }
 
 // Where a block's rows stand in samples: the first sample, and how far rows are apart.
-#[derive(Drop)]
+#[derive(Clone, Copy)]
 pub struct Lines {
     pub first: usize,
     pub stride: usize,
 }
 
 // The winner of a search with its cost; zero at no cost where it is refused.
-#[derive(Drop)]
+#[derive(Clone, Copy)]
 pub struct Won {
     pub reply: Reply,
     pub best: Scored,

@@ -19,7 +19,7 @@ mod ring;
 mod rows;
 
 // A vector component: whole samples, and whether half a sample is left.
-#[derive(Drop)]
+#[derive(Clone, Copy)]
 pub struct HalfPel {
     pub whole: i32,
     pub half: bool,
@@ -68,7 +68,7 @@ pub fn interpolate_pixel(a: u8, b: u8, c: u8, d: u8, half_x: bool, half_y: bool,
 
 // Half a sample to the right, half a sample down, and the rounding control that averages are lowered by. Its size, four bytes, lets it
 // go from function to function in a register.
-#[derive(Drop)]
+#[derive(Clone, Copy)]
 struct Halves {
     x: bool,
     y: bool,
@@ -76,7 +76,7 @@ struct Halves {
 }
 
 // Where a block is read in one direction: its first sample, and whether half a sample on.
-#[derive(Drop)]
+#[derive(Clone, Copy)]
 struct AxisStart {
     at: i32,
     half: bool,

@@ -19,7 +19,7 @@ mod ready;
 
 // fcode 1..7; mode 0 (half) or 1 (quarter) and its bits per pixel; quantiser 1..31 and whether by the first method; one vector or four;
 // scan 0..2.
-#[derive(Drop)]
+#[derive(Clone, Copy)]
 pub struct Settings {
     pub fcode: u32,
     pub mode: u32,
@@ -31,21 +31,21 @@ pub struct Settings {
 }
 
 // The reply, and the macroblock's record, all 0 where the call is refused.
-#[derive(Drop)]
+#[derive(Clone, Copy)]
 pub struct Coded {
     pub reply: Reply,
     pub record: Record,
 }
 
 // The reply, and a macroblock's activity, 0 where the call is refused.
-#[derive(Drop)]
+#[derive(Clone, Copy)]
 pub struct Activity {
     pub reply: Reply,
     pub sum: u32,
 }
 
 // The one vector and its sum; the four and theirs, all 0 where four were not searched for.
-#[derive(Drop)]
+#[derive(Clone, Copy)]
 struct Searched {
     pub vector: MotionVector,
     pub sum: u32,
@@ -54,7 +54,7 @@ struct Searched {
 }
 
 // The lengths of what a call lends.
-#[derive(Drop)]
+#[derive(Clone, Copy)]
 struct Lengths {
     pub reference: usize,
     pub y: usize,
@@ -70,7 +70,7 @@ struct Lengths {
 }
 
 // The lengths of what a call lends whose prediction is made here.
-#[derive(Drop)]
+#[derive(Clone, Copy)]
 struct PredictedLengths {
     pub reference: PlaneLengths,
     pub source: PlaneLengths,

@@ -14,7 +14,7 @@ use record::Record;
 use refusal::{Refusal, Reply};
 
 // The sizes at opening; how many records were given, which is the next macroblock's place; their events and one_vector_lem sums.
-#[derive(Drop)]
+#[derive(Clone, Copy)]
 pub struct Run {
     pub size: SourceSize,
     pub macroblocks: u64,
@@ -23,14 +23,14 @@ pub struct Run {
 }
 
 // The reply, and the run, all 0 where the call is refused.
-#[derive(Drop)]
+#[derive(Clone, Copy)]
 pub struct Opened {
     pub reply: Reply,
     pub run: Run,
 }
 
 // The reply, the run, which is as it went in where the call is refused, and the record, which is then all 0.
-#[derive(Drop)]
+#[derive(Clone, Copy)]
 pub struct Stepped {
     pub reply: Reply,
     pub run: Run,
@@ -38,7 +38,7 @@ pub struct Stepped {
 }
 
 // Over the records given.
-#[derive(Drop)]
+#[derive(Clone, Copy)]
 pub struct Totals {
     pub macroblocks: u64,
     pub events: u64,
@@ -46,7 +46,7 @@ pub struct Totals {
 }
 
 // The reply, and the totals, all 0 where the call is refused.
-#[derive(Drop)]
+#[derive(Clone, Copy)]
 pub struct Closed {
     pub reply: Reply,
     pub totals: Totals,

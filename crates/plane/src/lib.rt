@@ -14,7 +14,7 @@ pub mod source;
 mod straight;
 
 // A plane has `height` rows of `stride` samples, of which the first `width` of each are the picture's.
-#[derive(Drop)]
+#[derive(Clone, Copy)]
 pub struct Geometry {
     pub width: usize,
     pub height: usize,
@@ -22,14 +22,14 @@ pub struct Geometry {
 }
 
 // Whole samples from a plane's first.
-#[derive(Drop)]
+#[derive(Clone, Copy)]
 pub struct Point {
     pub x: i32,
     pub y: i32,
 }
 
 // Where a block stands in a plane: its corner, how wide and how high it is.
-#[derive(Drop)]
+#[derive(Clone, Copy)]
 pub struct Site {
     pub corner: Point,
     pub width: usize,
@@ -37,21 +37,21 @@ pub struct Site {
 }
 
 // The picture that is coded, in luma samples.
-#[derive(Drop)]
+#[derive(Clone, Copy)]
 pub struct SourceSize {
     pub width: usize,
     pub height: usize,
 }
 
 // In macroblocks.
-#[derive(Drop)]
+#[derive(Clone, Copy)]
 pub struct MacroblockPlace {
     pub column: usize,
     pub row: usize,
 }
 
 // A sample, or why there is none.
-#[derive(Drop)]
+#[derive(Clone, Copy)]
 pub enum Fetched {
     Sample(u8),
     Refused(Refusal),

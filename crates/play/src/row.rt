@@ -11,7 +11,7 @@ use plane::{Geometry, SourceSize};
 use refusal::{Refusal, Reply};
 
 // Whether another row may follow, whether all that was to be printed is written, and the run as it then is.
-#[derive(Drop)]
+#[derive(Clone, Copy)]
 pub struct Played {
     pub more: bool,
     pub written: bool,
@@ -19,7 +19,7 @@ pub struct Played {
 }
 
 // Whether another macroblock may follow, how far the row's lines reach, and the run as it then is.
-#[derive(Drop)]
+#[derive(Clone, Copy)]
 struct Added {
     more: bool,
     at: usize,

@@ -19,7 +19,7 @@ mod chroma;
 mod planes;
 
 // Vectors in half samples, or in quarter samples with the bits per pixel that their averages and filters are cut to.
-#[derive(Drop)]
+#[derive(Clone, Copy)]
 pub enum BVopSampleMode {
     HalfPel,
     QuarterPel(u32),
@@ -124,7 +124,7 @@ pub fn predict_luma_block(
 }
 
 // One vector for the macroblock, or one for each of its four 8 x 8 blocks, 0 and 1 above 2 and 3.
-#[derive(Drop)]
+#[derive(Clone, Copy)]
 pub enum PvopMbMotion {
     OneMv(MotionVector),
     FourMv(MotionVector, MotionVector, MotionVector, MotionVector),
@@ -217,7 +217,7 @@ pub fn predict_luma_macroblock(
 }
 
 // The reply, and the chroma vector, 0 where the call is refused.
-#[derive(Drop)]
+#[derive(Clone, Copy)]
 pub struct ChromaVector {
     pub reply: Reply,
     pub vector: MotionVector,
@@ -250,14 +250,14 @@ pub fn motion_of(count: u32, one: MotionVector, four: [MotionVector; 4]) -> Pvop
 }
 
 // Luma's sizes and stride, and the one stride of both chroma planes.
-#[derive(Drop)]
+#[derive(Clone, Copy)]
 pub struct ReferenceGeometry {
     pub luma: Geometry,
     pub chroma_stride: usize,
 }
 
 // How long three planes are, or a macroblock's three areas.
-#[derive(Drop)]
+#[derive(Clone, Copy)]
 pub struct PlaneLengths {
     pub y: usize,
     pub cb: usize,

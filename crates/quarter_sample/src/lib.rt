@@ -15,7 +15,7 @@ mod filter;
 mod passes;
 
 // A vector component: whole samples, and 0 to 3 quarters.
-#[derive(Drop)]
+#[derive(Clone, Copy)]
 pub struct QuarterPel {
     pub whole: i32,
     pub fraction: u8,
@@ -43,7 +43,7 @@ pub fn bits_reply(bits_per_pixel: u32) -> Reply
 }
 
 // Where the copied block starts, and which of the sixteen places within it.
-#[derive(Drop)]
+#[derive(Clone, Copy)]
 struct Start {
     at: Point,
     fractions: u8,

@@ -5,7 +5,7 @@ ghost use Rattle.record.specs.Pattern.{worth, is_coded};
 ghost use Rattle.record.specs.Count.{events_in, four_total};
 
 // In half or quarter samples, as the mode has it.
-#[derive(Drop)]
+#[derive(Clone, Copy)]
 pub struct MotionVector {
     pub x: i32,
     pub y: i32,
@@ -13,7 +13,7 @@ pub struct MotionVector {
 
 // A macroblock as it is coded: the one vector and its sum; the four vectors and theirs, all 0 where four were not searched for;
 // block 0 is the luma pattern's bit worth 8, Cb the chroma pattern's bit worth 2; how many events each of the six blocks has.
-#[derive(Drop)]
+#[derive(Clone, Copy)]
 pub struct Record {
     pub vector: MotionVector,
     pub sum: u32,

@@ -5,7 +5,7 @@ ghost use Rattle.refusal.specs.Reply.{unless, and_then};
 ghost use Rattle.refusal.specs.Test.{between, in_range, all_in_range};
 
 // By number: 1 to 14 because of the input, 21 to 23 because of the run; 31 because of the input, after 14.
-#[derive(Drop)]
+#[derive(Clone, Copy)]
 pub enum Refusal {
     Fcode,
     Mode,
@@ -27,7 +27,7 @@ pub enum Refusal {
     RoundingType,
 }
 
-#[derive(Drop)]
+#[derive(Clone, Copy)]
 pub enum Reply {
     Done,
     Refused(Refusal),

@@ -150,7 +150,7 @@ pub fn inverse_scan(levels: &[i32], scan: u32, out: &mut [i32]) -> Reply
 }
 
 // The reply, and how many events were written.
-#[derive(Drop)]
+#[derive(Clone, Copy)]
 pub struct Events {
     pub reply: Reply,
     pub count: u8,

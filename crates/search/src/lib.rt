@@ -23,7 +23,7 @@ mod range;
 mod sub;
 
 // What a search goes by: the mode of its vectors, their range, and the rounding type of the predictions that it sums.
-#[derive(Drop)]
+#[derive(Clone, Copy)]
 pub struct SearchSettings {
     pub mode: BVopSampleMode,
     pub fcode: u32,
@@ -31,7 +31,7 @@ pub struct SearchSettings {
 }
 
 // A vector in vector units and its sum, both 0 where the search is refused.
-#[derive(Drop)]
+#[derive(Clone, Copy)]
 pub struct Estimated {
     pub reply: Reply,
     pub vector: MotionVector,
@@ -39,7 +39,7 @@ pub struct Estimated {
 }
 
 // The vectors of blocks 0 and 1 above 2 and 3, and their sums, all 0 where the search is refused.
-#[derive(Drop)]
+#[derive(Clone, Copy)]
 pub struct EstimatedFour {
     pub reply: Reply,
     pub vectors: [MotionVector; 4],
