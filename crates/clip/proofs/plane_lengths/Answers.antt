@@ -1,0 +1,40 @@
+-- `clip::plane_lengths` meets its contract.
+use native.Mathlib.Omega.{arith}
+use mathlib.Core.Path.{◌≡◌, sym, ◌∙◌}
+use borrow.Author.Rules.{rules}
+use Rattle.refusal.specs.declared.Reply.TheVariants.{Done}
+use Rattle.clip.specs.declared.Head.{Head}
+use Rattle.clip.specs.Header.{head_reply}
+use Rattle.clip.proofs.Whole.{Small, small, luma_small, chroma_small, announced}
+use Rattle.clip.proofs.plane_lengths.Goals.{In-Done}
+use Rattle.clip.proofs.plane_lengths.Goals as goal
+
+-- where the header is not refused
+module _ (c : In-Done) where
+  abbrev head : Head
+  head = c.args.head
+
+  whole : head_reply head ≡ Done
+  whole = sym c.head_reply.ensures ∙ c.in-Done.is
+
+  sides : Small head
+  sides = small head whole
+
+pub overflow_mul-result : goal.overflow_mul-result
+overflow_mul-result c = omega (arith, luma_small (head (goal.at.overflow_mul-result c).In-Done) (sides (goal.at.overflow_mul-result c).In-Done))
+
+pub overflow_add-result : goal.overflow_add-result
+overflow_add-result c = omega (arith, (sides (goal.at.overflow_add-result c).In-Done).wide)
+
+pub overflow_add-result-in-Done : goal.overflow_add-result-in-Done
+overflow_add-result-in-Done c = omega (arith, (sides (goal.at.overflow_add-result-in-Done c).In-Done).high)
+
+pub overflow_mul-result-in-Done : goal.overflow_mul-result-in-Done
+overflow_mul-result-in-Done c = omega (arith, chroma_small (head (goal.at.overflow_mul-result-in-Done c).In-Done) (sides (goal.at.overflow_mul-result-in-Done c).In-Done))
+
+pub returns-in-Done : goal.returns-in-Done
+returns-in-Done c = (sym (announced (head (goal.at.returns-in-Done c).In-Done) Done (whole (goal.at.returns-in-Done c).In-Done)), luma_small (head (goal.at.returns-in-Done c).In-Done) (sides (goal.at.returns-in-Done c).In-Done), chroma_small (head (goal.at.returns-in-Done c).In-Done) (sides (goal.at.returns-in-Done c).In-Done))
+
+pub returns-in-Refused : goal.returns-in-Refused
+returns-in-Refused c =
+    (sym (announced c.args.head _ (sym c.head_reply.ensures ∙ c.in-Refused.is)), omega arith, omega arith)

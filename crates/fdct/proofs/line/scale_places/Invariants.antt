@@ -1,0 +1,17 @@
+-- `fdct::line::scale_places` meets its contract.
+use borrow.Author.Rules.{rules}
+use Prim.Native.Nat.{ℕ, ◌-◌, ◌≤◌}
+use native.Mathlib.Omega.{arith}
+use mathlib.Core.Path.{◌≡◌, sym, ap, ◌∙◌}
+use lib.Ieee.{Float, binary64, mul, of_bits}
+use lib.ListN.{length}
+use Rattle.basis.specs.Lists.{tabulate}
+use Rattle.basis.proofs.Lists.{filled, filled_none, filled_set, filled_end}
+use Rattle.fdct.specs.Double.{half_double}
+use Rattle.fdct.specs.Line.{weight}
+use Rattle.fdct.specs.Told.{entries}
+use Rattle.fdct.proofs.line.scale_places.Given as goal
+
+abbrev pub invariant-loop-j : goal.invariant-loop-j
+invariant-loop-j l =
+    (l.j ≤ 8) × (length l.out ≡ 8) × (length l.initial.out ≡ 8) × (l.out ≡ filled l.j (λ j. mul binary64 (mul binary64 half_double (weight j)) (entries l.sums j)) l.initial.out)

@@ -1,0 +1,66 @@
+-- `full_search::full::strip_search` meets its contract.
+use Prim.Native.Nat.{ℕ, ◌+◌, ◌*◌}
+use native.Mathlib.Omega.{arith}
+use mathlib.Core.Path.{◌≡◌}
+use borrow.Author.Rules.{rules}
+use Rattle.plane.specs.declared.Point.{Point}
+use Rattle.plane.specs.Plane.{plane_of, copied_block}
+use Rattle.full_search.specs.Told.{moved_to}
+use Rattle.full_search.proofs.OnPatches.{strip_kept}
+use Rattle.full_search.proofs.Patches.{copy_is, copy_length, strip_room}
+use Rattle.full_search.proofs.Sides.{side_least, side_most}
+use Rattle.full_search.proofs.full.strip_search.Goals.{After-copy_block, Start}
+use Rattle.full_search.proofs.full.strip_search.Goals as goal
+
+abbrev start : After-copy_block → Start
+start c = (goal.at.After-copy_block c).Start
+
+abbrev width_of : Start → ℕ
+width_of s = s.args.target.side + s.args.row.step * s.args.row.count
+
+abbrev firstPlace : Start → Point
+firstPlace s = moved_to s.args.target.corner s.args.row.from
+
+-- what the strip then holds
+held : (c : After-copy_block)
+    → let a = c.args in
+    c.copy_block.new.1.1.1.1.1.0
+    ≡ copied_block (plane_of a.reference.now a.target.geometry) (firstPlace (goal.at.After-copy_block c).Start) (width_of (goal.at.After-copy_block c).Start) a.target.side
+held c =
+    let a = c.args in
+    let p = c.requires in
+    copy_is a.reference.now a.target.geometry c.moved_to-at.result (firstPlace (goal.at.After-copy_block c).Start) (width_of (goal.at.After-copy_block c).Start) a.target.side
+    c.copy_block.result a.strip.now _ p.ready.reference p.strip_fits c.moved_to-at.ensures
+    c.copy_block.ensures.value c.copy_block.ensures.out_after
+
+pub overflow_mul-width : goal.overflow_mul-width
+overflow_mul-width c =
+    record { fits = omega (arith, c.requires.run_small) }
+
+pub overflow_add-width : goal.overflow_add-width
+overflow_add-width c =
+    record { fits = omega (arith, c.requires.run_small, side_most c.args.target.side c.requires.ready.is_side_is) }
+
+pub moved_to-at-requires : goal.moved_to-at-requires
+moved_to-at-requires c =
+    (c.requires.ready.inside, c.requires.from_small)
+
+pub row_search-requires : goal.row_search-requires
+row_search-requires c =
+    let a = c.args in
+    let p = c.requires in
+    let side = a.target.side in
+    let long = copy_length (plane_of a.reference.now a.target.geometry) (firstPlace (goal.at.row_search-requires c).Start) (width_of (goal.at.row_search-requires c).Start) side _ (held (goal.at.row_search-requires c).After-copy_block) in
+    record {
+      is_side_is = p.ready.is_side_is;
+      source_fits = p.ready.source_fits;
+      fits = λ i h. omega (arith, long, strip_room side a.row.step a.row.count i (side_least side p.ready.is_side_is) h);
+      from_small = p.from_small;
+      run_small = p.run_small;
+    }
+
+pub returns : goal.returns
+returns c =
+    let a = c.args in
+    strip_kept a.target.side a.source.now _ (plane_of a.reference.now a.target.geometry) a.target.corner a.row a.discount a.best
+    c.row_search.result (held (goal.at.returns c).After-copy_block) c.row_search.ensures c.requires.best_small

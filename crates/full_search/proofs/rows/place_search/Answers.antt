@@ -1,0 +1,49 @@
+-- `full_search::rows::place_search` meets its contract.
+use mathlib.Core.List.{[], ◌∷◌}
+use mathlib.Core.Path.{◌≡◌, sym, ◌∙◌}
+use borrow.Author.Rules.{rules}
+use native.Mathlib.Omega.{arith}
+use Rattle.full_search.specs.Places.{listed}
+use Rattle.full_search.proofs.Listed.{too_near, too_far, is_listed}
+use Rattle.full_search.proofs.OnPatches.{passed_over, considered, zero_here, other_here}
+use Rattle.full_search.proofs.Sides.{source_fits}
+use Rattle.full_search.proofs.rows.place_search.Goals.{Else-row-far}
+use Rattle.full_search.proofs.rows.place_search.Goals as goal
+
+listed_here : (c : Else-row-far)
+    → listed c.args.row.inner c.args.row.outer c.args.d ≡ c.args.d ∷ []
+listed_here c =
+    is_listed c.args.row.inner c.args.row.outer c.args.d (omega (arith, c.distance-far.ensures, c.if-far-row.false))
+    (omega (arith, c.distance-far.ensures, c.if-row-far.false))
+
+pub returns-then-far-row : goal.returns-then-far-row
+returns-then-far-row c =
+    let s = c.args in
+    passed_over s.side s.source.now s.patch.now s.at s.discount s.d s.best
+    (too_near s.row.inner s.row.outer s.d (omega (arith, c.distance-far.ensures, c.if-far-row.true)))
+
+pub returns-then-row-far : goal.returns-then-row-far
+returns-then-row-far c =
+    let s = c.args in
+    passed_over s.side s.source.now s.patch.now s.at s.discount s.d s.best
+    (too_far s.row.inner s.row.outer s.d (omega (arith, c.distance-far.ensures, c.if-row-far.true)))
+
+pub block-sum-requires : goal.block-sum-requires
+block-sum-requires c =
+    (c.requires.is_side_is, source_fits c.args.side c.args.source.now c.requires.source_fits, c.requires.fits)
+
+pub returns-then-far-eq0 : goal.returns-then-far-eq0
+returns-then-far-eq0 c =
+    let s = c.args in
+    considered s.side s.source.now s.patch.now s.at s.discount s.d c.less.result s.best c.consider.result
+    c.consider.ensures (listed_here (goal.at.returns-then-far-eq0 c).Else-row-far)
+    (zero_here s.side s.source.now s.patch.now s.at s.discount s.d c.block-sum.result c.block-sum.ensures c.less.result
+    c.less.ensures (sym c.distance-far.ensures ∙ c.if-far-eq0.true))
+
+pub returns : goal.returns
+returns c =
+    let s = c.args in
+    considered s.side s.source.now s.patch.now s.at s.discount s.d c.block-sum.result s.best c.consider-2.result
+    c.consider-2.ensures (listed_here (goal.at.returns c).Else-row-far)
+    (other_here s.side s.source.now s.patch.now s.at s.discount s.d c.block-sum.result c.block-sum.ensures
+    (λ z. c.if-far-eq0.false (c.distance-far.ensures ∙ z)))

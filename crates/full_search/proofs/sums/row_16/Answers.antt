@@ -1,0 +1,18 @@
+-- `full_search::sums::row_16` meets its contract.
+use Prim.Native.Nat.{◌-◌}
+use native.Mathlib.Omega.{arith}
+use borrow.Author.Rules.{rules}
+use Rattle.basis.proofs.Sums.{summed_none, summed_more, summed_end}
+use Rattle.full_search.proofs.RowSums.{RowSummed}
+use Rattle.full_search.proofs.sums.row_16.Goals as goal
+
+pub loop-i-init : goal.loop-i-init
+loop-i-init c = summed_none _ _ _
+
+pub loop-i-preserved : goal.loop-i-preserved
+loop-i-preserved c = summed_more _ _ _ c.loop-i.invariant (omega arith) c.difference-sum.ensures.0 c.difference-sum.ensures.1
+
+pub returns : goal.returns
+returns c =
+    let e = summed_end _ _ _ c.loop-i.invariant (omega arith) in
+    (e.0, omega arith)

@@ -1,0 +1,10 @@
+-- `full_search::sums::row_8` meets its contract.
+use Prim.Native.Nat.{◌-◌}
+use native.Mathlib.Omega.{arith}
+use borrow.Author.Rules.{rules}
+use Rattle.basis.proofs.Sums.{summed_none, summed_more, summed_end}
+use Rattle.full_search.proofs.RowSums.{RowSummed}
+use Rattle.full_search.proofs.sums.row_8.Given as goal
+
+abbrev pub invariant-loop-i : goal.invariant-loop-i
+invariant-loop-i l = RowSummed 8 l.a l.b l.i l.sum

@@ -1,0 +1,13 @@
+-- `half_sample::ring::between_four` meets its contract.
+use Prim.Native.Nat.{◌-◌, ◌≤◌}
+use native.Mathlib.Omega.{arith}
+use mathlib.Core.Bool.{true}
+use mathlib.Core.Path.{◌≡◌, refl, sym}
+use lib.ListN.{length, length-set}
+use Rattle.basis.proofs.Lists.{filled, filled_none, filled_set, filled_end}
+use Rattle.half_sample.specs.Ring.{ring_at}
+use Rattle.half_sample.proofs.ring.between_four.Given as goal
+
+abbrev pub invariant-loop-i : goal.invariant-loop-i
+invariant-loop-i l =
+    (l.i ≤ l.i-end) × (l.i-end ≡ length l.initial.out) × (length l.out ≡ length l.initial.out) × (l.out ≡ filled l.i (ring_at l.patch l.stride true true l.rc) l.initial.out)

@@ -1,0 +1,18 @@
+-- `half_sample::rows::row_d` meets its contract.
+use Prim.Native.Nat.{◌-◌, ◌≤◌}
+use native.Mathlib.Omega.{arith}
+use mathlib.Core.Path.{◌≡◌, refl, sym}
+use lib.ListN.{length, length-set}
+use Rattle.basis.proofs.Lists.{filled, filled_none, filled_set, filled_end}
+use Rattle.half_sample.specs.ToldRows.{between_four}
+use Rattle.half_sample.proofs.rows.row_d.Goals as goal
+
+pub loop-i-init : goal.loop-i-init
+loop-i-init c = (omega arith, refl, refl, sym (filled_none _ _))
+
+pub loop-i-preserved : goal.loop-i-preserved
+loop-i-preserved c =
+    (omega arith, omega arith, simp length-set (omega arith), filled_set _ _ _ _ _ c.loop-i.invariant.3 c.average4.ensures (omega arith))
+
+pub returns : goal.returns
+returns c = filled_end _ _ _ _ c.loop-i.invariant.3 (omega arith)

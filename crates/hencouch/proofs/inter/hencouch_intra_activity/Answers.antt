@@ -1,0 +1,16 @@
+-- `hencouch::inter::hencouch_intra_activity` meets its contract.
+use mathlib.Core.Path.{ap, ◌∙◌}
+use Rattle.refusal.specs.Number.{code_of}
+use Rattle.refusal.specs.Reply.{done}
+use Rattle.macroblock.specs.declared.Activity.{Activity}
+use borrow.Author.Rules.{rules}
+use Rattle.hencouch.proofs.inter.hencouch_intra_activity.Goals as goal
+
+pub returns : goal.returns
+returns c =
+    let a = c.args in
+    let e = c.intra_activity-told.ensures in
+    let w = c.write_activity.ensures in (
+      w.0 ∙ ap (λ (t : Activity). code_of t.reply) e,
+      w.1 ∙ ap (λ (t : Activity). done t.reply t.sum a.activity.now) e,
+    )

@@ -1,0 +1,49 @@
+-- `hencouch::inter::hencouch_quantise_inter_residual` meets its contract.
+use Prim.Native.Nat.{ℕ}
+use mathlib.Core.List.{List}
+use mathlib.Core.Bool.{Bool}
+use mathlib.Core.Path.{ap, ◌∙◌}
+use lib.ListN.{length, replicate}
+use Rattle.refusal.specs.declared.Reply.{Reply}
+use Rattle.refusal.specs.Number.{code_of}
+use Rattle.refusal.specs.Reply.{done}
+use Rattle.coding.specs.declared.Counted.{Counted}
+use Rattle.reader.specs.Handed.{areas}
+use Rattle.coding.specs.Coding.{Quantising, quantising_of, areas_of, counts_of}
+use Rattle.coding.specs.Reply.{coding_reply, residual_events}
+use Rattle.refusal.proofs.Replies.{done_again}
+use borrow.Author.Rules.{rules}
+use Rattle.areas.specs.Numbers.{is_set}
+use Rattle.hencouch.proofs.inter.hencouch_quantise_inter_residual.Goals.{Start}
+use Rattle.hencouch.proofs.inter.hencouch_quantise_inter_residual.Goals as goal
+
+module _ (s : Start) where
+  -- how the residual is quantised, by a method, and what is replied and told
+  abbrev by : Bool → Quantising
+  by first = let a = s.args in quantising_of a.quantiser first a.weights.now a.scan
+
+  abbrev replyFor : Bool → Reply
+  replyFor first =
+      let a = s.args in
+      coding_reply 384 a.residual.now (by first) (length a.lasts.now) (length a.runs.now) (length a.levels.now)
+
+  abbrev told_for : Bool → Counted
+  told_for first = residual_events (replyFor first) (by first) s.args.residual.now
+
+pub returns : goal.returns
+returns c =
+    let a = c.args in
+    let is = c.is_set-first.ensures in
+    let e = c.quantise_inter_residual-told.ensures in
+    let w = c.write_counts.ensures in
+    let told = e.0 ∙ ap (told_for (goal.at.returns c).Start) is in
+    let first = is_set a.first-method in
+    let old = areas a.lasts.now a.runs.now a.levels.now in (
+      w.0 ∙ ap (λ (t : Counted). code_of t.reply) told,
+      e.1
+          ∙ ap (λ (b : Bool). done c.quantise_inter_residual-told.result.reply (areas_of (by (goal.at.returns c).Start b) a.residual.now) old) is
+          ∙ ap (λ (t : Counted). done t.reply (areas_of (by (goal.at.returns c).Start first) a.residual.now) old) told,
+      w.1
+          ∙ ap (λ (t : Counted). done t.reply t.counts a.counts.now) told
+          ∙ done_again (replyFor (goal.at.returns c).Start first) (λ (n : List ℕ). n) (counts_of (by (goal.at.returns c).Start first) a.residual.now) (replicate 6 0) a.counts.now,
+    )

@@ -1,0 +1,28 @@
+-- `hencouch::levels::hencouch_quantise_block` meets its contract.
+use mathlib.Core.Bool.{Bool}
+use mathlib.Core.Path.{ap, ◌∙◌}
+use mathlib.Core.List.{List}
+use lib.IntN.{ℤ}
+use lib.ListN.{length}
+use Rattle.refusal.specs.declared.Reply.{Reply}
+use Rattle.refusal.specs.Number.{code_of}
+use Rattle.refusal.specs.Reply.{done}
+use Rattle.quantise.specs.Block.{block_levels, quantise_reply}
+use borrow.Author.Rules.{rules}
+use Rattle.hencouch.proofs.levels.hencouch_quantise_block.Goals.{Start}
+use Rattle.hencouch.proofs.levels.hencouch_quantise_block.Goals as goal
+
+module _ (s : Start) where
+  -- the reply and the block, by a method
+  abbrev replyFor : Bool → Reply
+  replyFor first = let a = s.args in quantise_reply a.coefficients.now a.quantiser first a.weights.now (length a.out.now)
+
+  abbrev blockFor : Bool → List ℤ
+  blockFor first = let a = s.args in block_levels first a.quantiser a.weights.now a.coefficients.now
+
+pub returns : goal.returns
+returns c =
+    let is = c.is_set-first.ensures in
+    let e = c.quantise_block-reply.ensures in
+    let r = e.0 ∙ ap (replyFor (goal.at.returns c).Start) is in
+    (c.code.ensures ∙ ap code_of r, e.1.0 ∙ λ i. done (r i) (blockFor (goal.at.returns c).Start (is i)) c.args.out.now)

@@ -1,0 +1,51 @@
+-- `hencouch::predicted::hencouch_predict_luma_macroblock_4mv` meets its contract.
+use Prim.Native.Nat.{ℕ}
+use mathlib.Core.List.{List}
+use mathlib.Core.Path.{◌≡◌, ap, ap₂, ◌∙◌}
+use lib.ListN.{length}
+use mir.Syntax.{w32}
+use mir.ValLaws.{to_z-of_z}
+use Rattle.refusal.specs.declared.Reply.{Reply}
+use Rattle.refusal.specs.Number.{code_of}
+use Rattle.refusal.specs.Reply.{done}
+use Rattle.plane.specs.declared.Point.{Point}
+use Rattle.plane.specs.Plane.{plane_of, geometry_of}
+use Rattle.prediction.specs.declared.PvopMbMotion.{PvopMbMotion}
+use Rattle.prediction.specs.Luma.{mode_of}
+use Rattle.prediction.specs.Macroblock.{macroblock_luma}
+use Rattle.areas.specs.Numbers.{point_of}
+use Rattle.predicting.specs.Luma.{luma_macroblock_reply}
+use borrow.Author.Rules.{rules}
+use Rattle.hencouch.proofs.predicted.hencouch_predict_luma_macroblock_4mv.Statement.{
+use Rattle.hencouch.proofs.predicted.hencouch_predict_luma_macroblock_4mv.Goals.{After-point_of-corner, Start}
+use Rattle.hencouch.proofs.predicted.hencouch_predict_luma_macroblock_4mv.Goals as goal
+
+  statement,
+}
+use Rattle.hencouch.proofs.predicted.hencouch_predict_luma_macroblock_4mv.Tie as tie
+
+module _ (s : Start) where
+  -- the reply and the samples, for a motion and a corner
+  abbrev replyFor : PvopMbMotion → Point → Reply
+  replyFor m o =
+      let a = s.args in
+      let geometry = geometry_of a.width a.height a.stride in
+      luma_macroblock_reply a.mode a.bits-per-pixel geometry (length a.samples.now) m o a.rounding (length a.out.now)
+
+  abbrev lumaFor : PvopMbMotion → Point → List ℕ
+  lumaFor m o =
+      let a = s.args in
+      let geometry = geometry_of a.width a.height a.stride in
+      macroblock_luma (mode_of a.mode a.bits-per-pixel) (plane_of a.samples.now geometry) m o a.rounding
+
+-- the numbers are read back as they were handed in
+corner-is : (c : After-point_of-corner) → let a = c.args in c.point_of-corner.result ≡ point_of a.origin-x a.origin-y
+corner-is c =
+    c.point_of-corner.ensures ∙ ap₂ point_of (to_z-of_z w32 c.args.origin_x c.ranges.origin_x) (to_z-of_z w32 c.args.origin_y c.ranges.origin_y)
+
+pub returns : goal.returns
+returns c =
+    let m = c.four_motion-motion.ensures in
+    let e = c.predict_luma_macroblock-reply.ensures in
+    let r = e.0 ∙ ap₂ (replyFor (goal.at.returns c).Start) m (corner-is (goal.at.returns c).After-point_of-corner) in
+    (c.code.ensures ∙ ap code_of r, e.1 ∙ λ i. done (r i) (lumaFor (goal.at.returns c).Start (m i) (corner-is (goal.at.returns c).After-point_of-corner i)) c.args.out.now)

@@ -1,0 +1,47 @@
+-- `hencouch::sample::hencouch_interpolate_block_into` meets its contract.
+use Prim.Native.Nat.{ℕ}
+use mathlib.Core.List.{List}
+use mathlib.Core.Path.{◌≡◌, ap, ap₂, ◌∙◌}
+use lib.ListN.{length}
+use mir.Syntax.{w32}
+use mir.ValLaws.{to_z-of_z}
+use Rattle.refusal.specs.declared.Reply.{Reply}
+use Rattle.refusal.specs.Number.{code_of}
+use Rattle.refusal.specs.Reply.{done}
+use Rattle.record.specs.declared.MotionVector.{MotionVector}
+use Rattle.plane.specs.declared.Site.{Site}
+use Rattle.plane.specs.Plane.{plane_of, geometry_of}
+use Rattle.plane.specs.Reference.{block_reply}
+use Rattle.half_sample.specs.Block.{half_block}
+use Rattle.plane.specs.Corner.{block_at}
+use Rattle.areas.specs.Numbers.{vector_of}
+use borrow.Author.Rules.{rules}
+use Rattle.hencouch.proofs.sample.hencouch_interpolate_block_into.Goals.{After-site_of-site, After-vector_of-vector, Start}
+use Rattle.hencouch.proofs.sample.hencouch_interpolate_block_into.Goals as goal
+
+module _ (s : Start) where
+  -- the reply and the block, for a vector and a site
+  abbrev replyFor : MotionVector → Site → Reply
+  replyFor v o = let a = s.args in block_reply (geometry_of a.width a.height a.stride) (length a.samples.now) v o (length a.out.now)
+
+  abbrev blockFor : MotionVector → Site → List ℕ
+  blockFor v o = let a = s.args in half_block (plane_of a.samples.now (geometry_of a.width a.height a.stride)) o v a.rounding
+
+-- the numbers are read back as they were handed in
+vector_is : (c : After-vector_of-vector) → let a = c.args in c.vector_of-vector.result ≡ vector_of a.mv-x a.mv-y
+vector_is c =
+    c.vector_of-vector.ensures ∙ ap₂ vector_of (to_z-of_z w32 c.args.mv_x c.ranges.mv_x) (to_z-of_z w32 c.args.mv_y c.ranges.mv_y)
+
+site_is : (c : After-site_of-site) → let a = c.args in
+    c.site_of-site.result ≡ block_at a.origin-x a.origin-y a.block-w a.block-h
+site_is c =
+    let a = c.args in
+    c.site_of-site.ensures
+    ∙ λ i. block_at (to_z-of_z w32 a.origin-x c.ranges.origin_x i) (to_z-of_z w32 a.origin-y c.ranges.origin_y i) a.block-w a.block-h
+
+pub returns : goal.returns
+returns c =
+    let v = vector_is (goal.at.returns c).After-vector_of-vector in
+    let e = c.interpolate_block_into-reply.ensures in
+    let r = e.0 ∙ ap₂ (replyFor (goal.at.returns c).Start) v (site_is (goal.at.returns c).After-site_of-site) in
+    (c.code.ensures ∙ ap code_of r, e.1 ∙ λ i. done (r i) (blockFor (goal.at.returns c).Start (v i) (site_is (goal.at.returns c).After-site_of-site i)) c.args.out.now)

@@ -1,0 +1,52 @@
+-- `hencouch::samples::hencouch_predict_macroblock` meets its contract.
+use mathlib.Core.Path.{◌≡◌, ap, ap₂, ◌∙◌}
+use mir.Syntax.{w32}
+use mir.ValLaws.{to_z-of_z}
+use Rattle.refusal.specs.declared.Reply.{Reply}
+use Rattle.refusal.specs.Number.{code_of}
+use Rattle.refusal.specs.Reply.{done}
+use Rattle.plane.specs.Samples.{Samples, samples}
+use Rattle.prediction.specs.declared.PvopMbMotion.{PvopMbMotion}
+use Rattle.prediction.specs.declared.PvopMbMotion.TheVariants.{OneMv}
+use Rattle.prediction.specs.declared.ReferenceGeometry.{ReferenceGeometry}
+use Rattle.prediction.specs.Luma.{mode_of}
+use Rattle.prediction.specs.Planes.{planes_of, lengths_in}
+use Rattle.prediction.specs.Prediction.{macroblock_prediction}
+use Rattle.predicting.specs.Samples.{macroblock_samples_reply}
+use Rattle.areas.specs.Numbers.{vector_of, macroblock_at}
+use borrow.Author.Rules.{rules}
+use Rattle.hencouch.proofs.samples.hencouch_predict_macroblock.Goals.{After-vector_of, Start}
+use Rattle.hencouch.proofs.samples.hencouch_predict_macroblock.Goals as goal
+
+module _ (s : Start) where
+  -- the reference's planes, and the lent areas as they are when the call begins
+  abbrev referred : Samples
+  referred = let a = s.args in samples a.ref-y.now a.ref-cb.now a.ref-cr.now
+
+  abbrev lent : Samples
+  lent = let a = s.args in samples a.y.now a.cb.now a.cr.now
+
+  -- the reply and the samples, for a geometry and a motion
+  abbrev replyFor : ReferenceGeometry → PvopMbMotion → Reply
+  replyFor g m =
+      let a = s.args in
+      macroblock_samples_reply a.mode a.bits-per-pixel g (lengths_in referred) m (macroblock_at a.column a.row) a.rounding (lengths_in lent)
+
+  abbrev made_for : ReferenceGeometry → PvopMbMotion → Samples
+  made_for g m =
+      let a = s.args in
+      macroblock_prediction (mode_of a.mode a.bits-per-pixel) (planes_of referred g) m (macroblock_at a.column a.row) a.rounding
+
+-- the numbers are read back as they were handed in
+vector_is : (c : After-vector_of) → let a = c.args in
+    c.vector_of.result ≡ vector_of a.mv-x a.mv-y
+vector_is c =
+    c.vector_of.ensures ∙ ap₂ vector_of (to_z-of_z w32 c.args.mv_x c.ranges.mv_x) (to_z-of_z w32 c.args.mv_y c.ranges.mv_y)
+
+pub returns : goal.returns
+returns c =
+    let m = ap OneMv (vector_is (goal.at.returns c).After-vector_of) in
+    let g = c.reference_geometry-geometry.ensures in
+    let e = c.predict_macroblock-reply.ensures in
+    let r = e.0 ∙ ap₂ (replyFor (goal.at.returns c).Start) g m in
+    (c.code.ensures ∙ ap code_of r, e.1 ∙ λ i. done (r i) (made_for (goal.at.returns c).Start (g i) (m i)) (lent (goal.at.returns c).Start))

@@ -1,0 +1,6 @@
+-- `macroblock::judge::areas_long` meets its contract.
+use borrow.Author.Rules.{rules}
+use Rattle.macroblock.proofs.judge.areas_long.Goals as goal
+
+pub returns : goal.returns
+returns c = cc

@@ -1,0 +1,47 @@
+-- `plane::copy::copy_plane_row` meets its contract.
+use Prim.Native.Nat.{◌+◌, ◌*◌, ◌≤◌}
+use native.Mathlib.Omega.{arith}
+use mathlib.Core.Path.{◌≡◌, ap, ◌∙◌}
+use lib.IntN.{ℤ, pos, ◌+ℤ◌}
+use lib.ListN.{length}
+use mir.Val.{to_z, of_z}
+use mir.Syntax.{w32}
+use Rattle.basis.proofs.Lists.{tabulate_cong}
+use Rattle.basis.proofs.Signed.{of_bits_lem}
+use Rattle.plane.specs.Plane.{Plane, plane_of, clamp_to, copied, sample_at}
+use Rattle.plane.proofs.Inside.{row_in_plane}
+use Rattle.plane.proofs.Rows.{in_row}
+use borrow.Author.Rules.{rules}
+use Rattle.plane.proofs.copy.copy_plane_row.Goals.{After-clamp_coordinate, Start}
+use Rattle.plane.proofs.copy.copy_plane_row.Goals as goal
+
+abbrev plane : Start → Plane
+plane s = plane_of s.args.samples.now s.args.geometry
+
+-- the row of the plane is the one nearest to y + j, and lies within the samples
+module _ (c : After-clamp_coordinate) where
+  nearest : c.clamp_coordinate.result ≡ clamp_to (plane (goal.at.After-clamp_coordinate c).Start).height (c.args.at.y +ℤ pos c.args.j)
+  nearest =
+      c.clamp_coordinate.ensures
+      ∙ ap (λ (z : ℤ). clamp_to (plane (goal.at.After-clamp_coordinate c).Start).height (z +ℤ pos c.args.j)) (of_bits_lem c.args.at.y c.struct_told-1.given.1.0.1)
+
+  inside : c.clamp_coordinate.result * (plane (goal.at.After-clamp_coordinate c).Start).stride + (plane (goal.at.After-clamp_coordinate c).Start).width ≤ length (plane (goal.at.After-clamp_coordinate c).Start).samples
+  inside = row_in_plane (plane (goal.at.After-clamp_coordinate c).Start) c.clamp_coordinate.result c.requires (omega (arith, c.clamp_coordinate.ensures))
+
+pub overflow_mul-start : goal.overflow_mul-start
+overflow_mul-start c = omega (arith, inside (goal.at.overflow_mul-start c).After-clamp_coordinate, c.well_formed)
+
+pub overflow_add-end : goal.overflow_add-end
+overflow_add-end c = omega (arith, inside (goal.at.overflow_add-end c).After-clamp_coordinate, c.well_formed)
+
+pub slice_bounds-copy_row-end : goal.slice_bounds-copy_row-end
+slice_bounds-copy_row-end c = omega (arith, inside (goal.at.slice_bounds-copy_row-end c).After-clamp_coordinate)
+
+pub returns : goal.returns
+returns c =
+    let a = c.args in
+    let r = c.clamp_coordinate.result in
+    c.copy_row.ensures
+    ∙ tabulate_cong (length a.out.now) _ (λ i. copied (plane (goal.at.returns c).Start) a.at.x a.at.y i a.j)
+    (λ i h. in_row (plane (goal.at.returns c).Start) (to_z w32 (of_z w32 a.at.x)) (a.at.y +ℤ pos a.j) r i c.requires.wide (inside (goal.at.returns c).After-clamp_coordinate) (nearest (goal.at.returns c).After-clamp_coordinate)
+    ∙ ap (λ (z : ℤ). sample_at (plane (goal.at.returns c).Start) (z +ℤ pos i) (a.at.y +ℤ pos a.j)) (of_bits_lem a.at.x c.struct_told-2-1.given.0.1))

@@ -1,0 +1,60 @@
+-- `plane::copy::gathered_row` meets its contract.
+use Prim.Native.Nat.{ℕ, ◌+◌, ◌-◌, ◌*◌, ◌≤◌}
+use native.Mathlib.Omega.{arith}
+use mathlib.Core.Path.{◌≡◌, sym, ap, ◌∙◌}
+use lib.IntN.{ℤ, pos, ◌+ℤ◌}
+use lib.ListN.{length, get_or, take, drop}
+use Rattle.basis.proofs.Lists.{tabulate_cong}
+use Rattle.basis.proofs.Signed.{of_bits_lem}
+use Rattle.basis.proofs.Slices.{part_length}
+use Rattle.plane.specs.Plane.{Plane, plane_of, clamp_to, copied}
+use Rattle.plane.proofs.Inside.{row_in_plane}
+use Rattle.plane.proofs.Rows.{in_row, at_column, columns_in}
+use borrow.Author.Rules.{rules}
+use Rattle.plane.proofs.copy.gathered_row.Goals.{After-clamp_coordinate, Start}
+use Rattle.plane.proofs.copy.gathered_row.Goals as goal
+
+abbrev plane : Start → Plane
+plane s = plane_of s.args.samples.now s.args.geometry
+
+-- the row of the plane is the one nearest to y + j, and lies within the samples
+module _ (c : After-clamp_coordinate) where
+  nearest : c.clamp_coordinate.result ≡ clamp_to (plane (goal.at.After-clamp_coordinate c).Start).height (c.args.at.y +ℤ pos c.args.j)
+  nearest =
+      c.clamp_coordinate.ensures
+      ∙ ap (λ (z : ℤ). clamp_to (plane (goal.at.After-clamp_coordinate c).Start).height (z +ℤ pos c.args.j)) (of_bits_lem c.args.at.y c.struct_told-1.given.1.0.1)
+
+  inside : c.clamp_coordinate.result * (plane (goal.at.After-clamp_coordinate c).Start).stride + (plane (goal.at.After-clamp_coordinate c).Start).width ≤ length (plane (goal.at.After-clamp_coordinate c).Start).samples
+  inside = row_in_plane (plane (goal.at.After-clamp_coordinate c).Start) c.clamp_coordinate.result c.requires.0 (omega (arith, c.clamp_coordinate.ensures))
+
+  row-length : let k = c.clamp_coordinate.result * (plane (goal.at.After-clamp_coordinate c).Start).stride in
+      length (take (k + (plane (goal.at.After-clamp_coordinate c).Start).width - k) (drop k (plane (goal.at.After-clamp_coordinate c).Start).samples)) ≡ (plane (goal.at.After-clamp_coordinate c).Start).width
+  row-length = part_length (plane (goal.at.After-clamp_coordinate c).Start).samples (c.clamp_coordinate.result * (plane (goal.at.After-clamp_coordinate c).Start).stride) (plane (goal.at.After-clamp_coordinate c).Start).width inside
+
+pub overflow_mul-start : goal.overflow_mul-start
+overflow_mul-start c = omega (arith, inside (goal.at.overflow_mul-start c).After-clamp_coordinate, c.well_formed)
+
+pub overflow_add-end : goal.overflow_add-end
+overflow_add-end c = omega (arith, inside (goal.at.overflow_add-end c).After-clamp_coordinate, c.well_formed)
+
+pub slice_bounds-gather-end : goal.slice_bounds-gather-end
+slice_bounds-gather-end c = omega (arith, inside (goal.at.slice_bounds-gather-end c).After-clamp_coordinate)
+
+pub gather-requires : goal.gather-requires
+gather-requires c =
+    let q = c.requires in
+    (q.1, columns_in c.args.columns.now (plane (goal.at.gather-requires c).Start).width _ c.args.at.x q.2 q.0.wide (row-length (goal.at.gather-requires c).After-clamp_coordinate))
+
+pub returns : goal.returns
+returns c =
+    let a = c.args in
+    let r = c.clamp_coordinate.result in
+    let k = r * (plane (goal.at.returns c).Start).stride in
+    let w = (plane (goal.at.returns c).Start).width in
+    let row = take (k + w - k) (drop k a.samples.now) in
+    let x = a.at.x in
+    c.gather.ensures
+    ∙ tabulate_cong (length a.out.now) _ (λ i. copied (plane (goal.at.returns c).Start) x a.at.y i a.j)
+    (λ i h. ap (λ (m : ℕ). get_or row m 0) (at_column a.columns.now w x i c.requires.2 (omega (arith, c.requires.1)))
+    ∙ ap (λ (m : ℕ). get_or row (clamp_to m (x +ℤ pos i)) 0) (sym (row-length (goal.at.returns c).After-clamp_coordinate))
+    ∙ in_row (plane (goal.at.returns c).Start) x (a.at.y +ℤ pos a.j) r i c.requires.0.wide (inside (goal.at.returns c).After-clamp_coordinate) (nearest (goal.at.returns c).After-clamp_coordinate))

@@ -1,0 +1,21 @@
+-- `plane::copy::gathered_rows` meets its contract.
+use Prim.Native.Nat.{ℕ, ◌+◌, ◌-◌, ◌*◌, ◌≤◌}
+use native.Mathlib.Omega.{arith}
+use mathlib.Core.Path.{◌≡◌, refl, sym, ap, ◌∙◌}
+use lib.ListN.{length, length-take, length-drop}
+use Rattle.basis.specs.Lists.{tabulate}
+use Rattle.plane.specs.declared.Geometry.{Geometry}
+use Rattle.plane.specs.declared.Point.{Point}
+use Rattle.plane.specs.Plane.{plane_of, copied}
+use mathlib.Core.List.{List}
+use Rattle.basis.proofs.Bounds.{row_before}
+use Rattle.basis.proofs.Lists.{length-tabulate, laid, laid_none, laid_put, laid_end}
+use Rattle.plane.proofs.copy.gathered_rows.Given as goal
+
+-- row j of the block
+abbrev pub block_row : List ℕ → Geometry → Point → ℕ → ℕ → List ℕ
+block_row s g at w j = tabulate w (λ i. copied (plane_of s g) at.x at.y i j)
+
+abbrev pub invariant-loop-j : goal.invariant-loop-j
+invariant-loop-j l =
+    (l.j ≤ l.h) × (length l.out ≡ length l.initial.out) × (l.out ≡ laid (length l.columns) (block_row l.samples l.geometry l.at (length l.columns)) l.j l.initial.out)

@@ -1,0 +1,52 @@
+-- `plane::copy::straight_row` meets its contract.
+use Prim.Native.Nat.{◌+◌, ◌-◌, ◌*◌, ◌≤◌}
+use native.Mathlib.Omega.{arith}
+use mathlib.Core.Path.{◌≡◌, sym, ap, ◌∙◌}
+use lib.IntN.{ℤ, pos, ◌+ℤ◌}
+use lib.ListN.{length, take, drop}
+use Rattle.basis.proofs.Lists.{tabulate_cong, tabulate_same}
+use Rattle.basis.proofs.Signed.{of_bits_lem}
+use Rattle.basis.proofs.Slices.{part_length}
+use Rattle.plane.specs.Plane.{Plane, plane_of, clamp_to, copied}
+use Rattle.plane.proofs.Rows.{inside_row, row_end}
+use borrow.Author.Rules.{rules}
+use Rattle.plane.proofs.copy.straight_row.Goals.{After-clamp_coordinate, Start}
+use Rattle.plane.proofs.copy.straight_row.Goals as goal
+
+abbrev plane : Start → Plane
+plane s = plane_of s.args.samples.now s.args.geometry
+
+-- the row of the plane is the one nearest to y + j, and its part lies within the samples
+module _ (c : After-clamp_coordinate) where
+  nearest : c.clamp_coordinate.result ≡ clamp_to (plane (goal.at.After-clamp_coordinate c).Start).height (c.args.at.y +ℤ pos c.args.j)
+  nearest =
+      c.clamp_coordinate.ensures
+      ∙ ap (λ (z : ℤ). clamp_to (plane (goal.at.After-clamp_coordinate c).Start).height (z +ℤ pos c.args.j)) (of_bits_lem c.args.at.y c.struct_told-1.given.1.0.1)
+
+  inside : c.clamp_coordinate.result * (plane (goal.at.After-clamp_coordinate c).Start).stride + c.args.column + length c.args.out.now ≤ length (plane (goal.at.After-clamp_coordinate c).Start).samples
+  inside =
+      row_end (plane (goal.at.After-clamp_coordinate c).Start) c.args.column c.clamp_coordinate.result (length c.args.out.now) c.requires.0
+      (omega (arith, c.clamp_coordinate.ensures)) c.requires.1
+
+pub overflow_mul-start : goal.overflow_mul-start
+overflow_mul-start c = omega (arith, inside (goal.at.overflow_mul-start c).After-clamp_coordinate, c.well_formed)
+
+pub overflow_add-start : goal.overflow_add-start
+overflow_add-start c = omega (arith, inside (goal.at.overflow_add-start c).After-clamp_coordinate, c.well_formed)
+
+pub overflow_add-end : goal.overflow_add-end
+overflow_add-end c = omega (arith, inside (goal.at.overflow_add-end c).After-clamp_coordinate, c.well_formed)
+
+pub slice_bounds-copy_straight-end : goal.slice_bounds-copy_straight-end
+slice_bounds-copy_straight-end c = omega (arith, inside (goal.at.slice_bounds-copy_straight-end c).After-clamp_coordinate)
+
+pub returns : goal.returns
+returns c =
+    let a = c.args in
+    let n = length a.out.now in
+    let k = c.clamp_coordinate.result * (plane (goal.at.returns c).Start).stride + a.column in
+    let part = take (k + n - k) (drop k a.samples.now) in
+    c.copy_straight.ensures
+    ∙ sym (tabulate_same n part 0 (part_length a.samples.now k n (inside (goal.at.returns c).After-clamp_coordinate)))
+    ∙ tabulate_cong n _ (λ i. copied (plane (goal.at.returns c).Start) (pos a.column) a.at.y i a.j)
+    (λ i h. inside_row (plane (goal.at.returns c).Start) a.column (a.at.y +ℤ pos a.j) c.clamp_coordinate.result n i (nearest (goal.at.returns c).After-clamp_coordinate) c.requires.1 h)

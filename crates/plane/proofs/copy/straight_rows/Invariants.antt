@@ -1,0 +1,22 @@
+-- `plane::copy::straight_rows` meets its contract.
+use Prim.Native.Nat.{ℕ, ◌+◌, ◌-◌, ◌*◌, ◌≤◌}
+use native.Mathlib.Omega.{arith}
+use mathlib.Core.Path.{◌≡◌, refl, sym, ap, ◌∙◌}
+use lib.IntN.{pos}
+use lib.ListN.{length, length-take, length-drop}
+use Rattle.basis.specs.Lists.{tabulate}
+use Rattle.plane.specs.declared.Geometry.{Geometry}
+use Rattle.plane.specs.declared.Point.{Point}
+use Rattle.plane.specs.Plane.{plane_of, copied}
+use mathlib.Core.List.{List}
+use Rattle.basis.proofs.Bounds.{row_before}
+use Rattle.basis.proofs.Lists.{length-tabulate, laid, laid_none, laid_put, laid_end}
+use Rattle.plane.proofs.copy.straight_rows.Given as goal
+
+-- row j of the block
+abbrev pub block_row : List ℕ → Geometry → ℕ → Point → ℕ → ℕ → List ℕ
+block_row s g column at w j = tabulate w (λ i. copied (plane_of s g) (pos column) at.y i j)
+
+abbrev pub invariant-loop-j : goal.invariant-loop-j
+invariant-loop-j l =
+    (l.j ≤ l.h) × (length l.out ≡ length l.initial.out) × (l.out ≡ laid l.w (block_row l.samples l.geometry l.column l.at l.w) l.j l.initial.out)

@@ -1,0 +1,8 @@
+-- `plane::motion_reply` meets its contract.
+use Rattle.plane.specs.Reference.{motion_reply}
+use borrow.Author.Rules.{rules}
+use Rattle.plane.proofs.motion_reply.Goals as goal
+
+pub returns : goal.returns
+unfolding motion_reply
+returns c = cc

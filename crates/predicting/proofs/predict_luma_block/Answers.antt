@@ -1,0 +1,38 @@
+-- `predicting::predict_luma_block` meets its contract.
+use Prim.Native.Nat.{ℕ}
+use mathlib.Core.List.{List}
+use mathlib.Core.Path.{refl, sym, ap, ◌∙◌}
+use lib.ListN.{length}
+use Rattle.refusal.specs.declared.Reply.{Reply}
+use Rattle.refusal.specs.Reply.{done, and_then}
+use Rattle.prediction.specs.declared.BVopSampleMode.{BVopSampleMode}
+use Rattle.prediction.specs.Luma.{mode_of, predicted_block, predict_reply}
+use Rattle.plane.specs.Plane.{plane_of}
+use borrow.Author.Rules.{rules}
+use Rattle.predicting.proofs.predict_luma_block.Goals.{Start}
+use Rattle.predicting.proofs.predict_luma_block.Goals as goal
+
+module _ (s : Start) where
+  -- the reply and the samples, in a mode
+  abbrev replyIn : BVopSampleMode → Reply
+  replyIn m = let a = s.args in predict_reply m a.geometry (length a.samples.now) a.vector a.site a.rounding (length a.out.now)
+
+  abbrev luma_in : BVopSampleMode → List ℕ
+  luma_in m = let a = s.args in predicted_block m (plane_of a.samples.now a.geometry) a.site a.rounding a.vector
+
+pub returns-in-Refused : goal.returns-in-Refused
+returns-in-Refused c =
+    let e = sym c.in-Refused.is ∙ c.mode_number_reply-known.ensures in
+    record {
+      value = ap (λ (r : Reply). and_then r (replyIn (goal.at.returns-in-Refused c).Start (mode_of c.args.mode c.args.bpp))) e;
+      out_after = refl;
+    }
+
+pub returns-in-Done : goal.returns-in-Done
+returns-in-Done c =
+    let e = sym c.in-Done.is ∙ c.mode_number_reply-known.ensures in
+    let u = c.mode_of-units.ensures in
+    let p = c.predict_luma_block.ensures in record {
+      value = p.0 ∙ ap (replyIn (goal.at.returns-in-Done c).Start) u ∙ ap (λ (r : Reply). and_then r (replyIn (goal.at.returns-in-Done c).Start (mode_of c.args.mode c.args.bpp))) e;
+      out_after = p.1 ∙ ap (λ (m : BVopSampleMode). done c.predict_luma_block.result (luma_in (goal.at.returns-in-Done c).Start m) c.args.out.now) u;
+    }

@@ -1,0 +1,6 @@
+-- `prediction::planes::chroma_geometry` meets its contract.
+use borrow.Author.Rules.{rules}
+use Rattle.prediction.proofs.planes.chroma_geometry.Goals as goal
+
+pub returns : goal.returns
+returns c = cc

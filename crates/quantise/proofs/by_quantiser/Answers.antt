@@ -1,0 +1,59 @@
+-- `quantise::by_quantiser` meets its contract.
+use borrow.Author.Rules.{rules}
+use Prim.Native.Nat.{◌-◌}
+use native.Mathlib.Omega.{arith}
+use mathlib.Core.Bool.{false}
+use mathlib.Core.Path.{sym, ◌∙◌}
+use lib.IntN.{pos}
+use lib.ListN.{length, get_or}
+use Rattle.quantise.specs.Block.{level_at, block_levels}
+use Rattle.quantise.proofs.Accepted.{Sound, sound}
+use Rattle.quantise.specs.Level.{level_by_quantiser}
+use Rattle.quantise.proofs.Storing.{StoredSoFar, stored_none, stored_long, stored_more, stored_all, read_small, read_made}
+use Rattle.quantise.proofs.by_quantiser.Goals.{Start}
+use Rattle.quantise.proofs.by_quantiser.Goals as goal
+
+-- what holds of the call
+good : (s : Start) → Sound s.args.coefficients.now s.args.quantiser s.args.weights.now (length s.args.out.now)
+good s = sound s.args.coefficients.now s.args.quantiser false s.args.weights.now (length s.args.out.now) s.requires
+
+pub loop-i-init : goal.loop-i-init
+loop-i-init c = stored_none _ _ (good (goal.at.loop-i-init c).Start).area_long
+
+pub reciprocal-by-requires : goal.reciprocal-by-requires
+reciprocal-by-requires c = ((good (goal.at.reciprocal-by-requires c).Start).low, (good (goal.at.reciprocal-by-requires c).Start).high)
+
+shared_slice_copy_out_quantise_method2_inter :
+    UNKNOWN-Need-shared-slice-copy-out-quantise-method2-inter
+shared_slice_copy_out_quantise_method2_inter c = omega (arith, (good c.before.before.before.before).long)
+
+pub quantise_method2_inter-requires : goal.quantise_method2_inter-requires
+quantise_method2_inter-requires c =
+    let g = good (goal.at.quantise_method2_inter-requires c).Start in
+    let i = c.loop-i.i in
+    let x = get_or c.args.coefficients.now i (pos 0) in
+    record {
+      small = read_small x c.quantise_method2_inter-arg-1.given 2048 (g.small i (omega arith));
+      quantiser_some = g.low;
+      quantiser_most = g.high;
+      by_is = c.reciprocal-by.ensures;
+    }
+
+pub bounds-out-i : goal.bounds-out-i
+bounds-out-i c = omega (arith, stored_long c.loop-i.invariant)
+
+pub loop-i-preserved : goal.loop-i-preserved
+loop-i-preserved c =
+    let l = c.loop-i in
+    let x = get_or c.args.coefficients.now l.i (pos 0) in
+    let made = c.quantise_method2_inter in
+    stored_more l.invariant _ (omega arith)
+    (read_made x c.quantise_method2_inter-arg-1.given (level_by_quantiser c.args.quantiser) made.result made.type-inv made.ensures)
+
+pub shape_of-out : goal.shape_of-out
+shape_of-out c = stored_long c.loop-i.invariant ∙ sym c.loop-i.invariant.was_long
+
+pub returns : goal.returns
+unfolding block_levels
+returns c =
+    stored_all c.loop-i.invariant (omega arith)

@@ -1,0 +1,174 @@
+-- `interpolate_place` meets its contract: each arm is its place's rule.
+use Prim.Native.Nat.{ℕ, ◌+◌, ◌*◌, ◌<◌}
+use mathlib.Core.List.{List}
+use mathlib.Core.Path.{◌≡◌, ◌∙◌}
+use lib.Dec.{lit<}
+use lib.ListN.{length}
+use borrow.Author.Rules.{rules}
+use Rattle.quarter_sample.specs.ToldPasses.{rows_at, columns_at, whole_at, both_at, place_at, block_source, PassNeeds}
+use Rattle.quarter_sample.proofs.Sixteen.{last_place}
+use Rattle.quarter_sample.proofs.Blocks.{place-by-steps, whole, across, down}
+use Rattle.quarter_sample.proofs.passes.interpolate_place.Goals.{Start}
+use Rattle.quarter_sample.proofs.passes.interpolate_place.Goals as goal
+
+-- two steps at the fractions of an arm are its place
+rule : (s : Start) (fx fy : ℕ) {out : List ℕ} → fx < 4 → fy < 4 → let a = s.args in a.fractions ≡ fx + 4 * fy
+    → out ≡ both_at a.w a.h a.rc a.max fx fy a.block.now
+    → out ≡ place_at a.w a.h a.rc a.max a.fractions a.block.now
+rule s fx fy {out} p q e o =
+    let a = s.args in
+    place-by-steps a.rc a.max a.w a.h fx fy a.fractions (block_source a.w a.h a.block.now) out p q e o
+
+-- one pass alone, and the copy, are two steps of which one or both stay
+module _ (s : Start) where
+  abbrev block : List ℕ
+  block = s.args.block.now
+
+  abbrev w : ℕ
+  w = s.args.w
+
+  abbrev h : ℕ
+  h = s.args.h
+
+  abbrev rc : ℕ
+  rc = s.args.rc
+
+  abbrev max : ℕ
+  max = s.args.max
+
+  whole_is : whole_at w h block ≡ both_at w h rc max 0 0 block
+  whole_is = whole rc max w h block
+
+  across_is : (fx : ℕ) → rows_at w h rc max fx block ≡ both_at w h rc max fx 0 block
+  across_is = across rc max w h block
+
+  down_is : (fy : ℕ) → columns_at w h rc max fy block (w + 1) ≡ both_at w h rc max 0 fy block
+  down_is = down rc max w h block
+
+-- what a pass needs
+pass : (s : Start) (fraction : ℕ) → 0 < fraction → fraction < 4 → let a = s.args in PassNeeds a.w a.h fraction a.rc (length a.out.now)
+pass s fraction p q =
+    let n = s.requires.0 in
+    record {
+      width_low = n.width_low;
+      width_high = n.width_high;
+      height_low = n.height_low;
+      height_high = n.height_high;
+      some_fraction = p;
+      fraction_small = q;
+      rc_small = n.rc_small;
+      out_fits = n.out_fits;
+    }
+
+pub copy_rows-requires : goal.copy_rows-requires
+copy_rows-requires c = let n = c.requires.0 in (n.width_high, n.height_high, n.out_fits)
+
+pub row_pass-requires : goal.row_pass-requires
+row_pass-requires c = pass (goal.at.row_pass-requires c).Start 1 (lit< tt) (lit< tt)
+
+pub row_pass-requires-in-2 : goal.row_pass-requires-in-2
+row_pass-requires-in-2 c = pass (goal.at.row_pass-requires-in-2 c).Start 2 (lit< tt) (lit< tt)
+
+pub row_pass-requires-in-3 : goal.row_pass-requires-in-3
+row_pass-requires-in-3 c = pass (goal.at.row_pass-requires-in-3 c).Start 3 (lit< tt) (lit< tt)
+
+pub column_pass-requires : goal.column_pass-requires
+column_pass-requires c = pass (goal.at.column_pass-requires c).Start 1 (lit< tt) (lit< tt)
+
+pub both_passes-requires : goal.both_passes-requires
+both_passes-requires c = (pass (goal.at.both_passes-requires c).Start 1 (lit< tt) (lit< tt), lit< tt, lit< tt)
+
+pub both_passes-requires-in-6 : goal.both_passes-requires-in-6
+both_passes-requires-in-6 c = (pass (goal.at.both_passes-requires-in-6 c).Start 2 (lit< tt) (lit< tt), lit< tt, lit< tt)
+
+pub both_passes-requires-in-7 : goal.both_passes-requires-in-7
+both_passes-requires-in-7 c = (pass (goal.at.both_passes-requires-in-7 c).Start 3 (lit< tt) (lit< tt), lit< tt, lit< tt)
+
+pub column_pass-requires-in-8 : goal.column_pass-requires-in-8
+column_pass-requires-in-8 c = pass (goal.at.column_pass-requires-in-8 c).Start 2 (lit< tt) (lit< tt)
+
+pub both_passes-requires-in-9 : goal.both_passes-requires-in-9
+both_passes-requires-in-9 c = (pass (goal.at.both_passes-requires-in-9 c).Start 1 (lit< tt) (lit< tt), lit< tt, lit< tt)
+
+pub both_passes-requires-in-10 : goal.both_passes-requires-in-10
+both_passes-requires-in-10 c = (pass (goal.at.both_passes-requires-in-10 c).Start 2 (lit< tt) (lit< tt), lit< tt, lit< tt)
+
+pub both_passes-requires-in-11 : goal.both_passes-requires-in-11
+both_passes-requires-in-11 c = (pass (goal.at.both_passes-requires-in-11 c).Start 3 (lit< tt) (lit< tt), lit< tt, lit< tt)
+
+pub column_pass-requires-in-12 : goal.column_pass-requires-in-12
+column_pass-requires-in-12 c = pass (goal.at.column_pass-requires-in-12 c).Start 3 (lit< tt) (lit< tt)
+
+pub both_passes-requires-in-13 : goal.both_passes-requires-in-13
+both_passes-requires-in-13 c = (pass (goal.at.both_passes-requires-in-13 c).Start 1 (lit< tt) (lit< tt), lit< tt, lit< tt)
+
+pub both_passes-requires-in-14 : goal.both_passes-requires-in-14
+both_passes-requires-in-14 c = (pass (goal.at.both_passes-requires-in-14 c).Start 2 (lit< tt) (lit< tt), lit< tt, lit< tt)
+
+pub both_passes-requires-in_default : goal.both_passes-requires-in_default
+both_passes-requires-in_default c = (pass (goal.at.both_passes-requires-in_default c).Start 3 (lit< tt) (lit< tt), lit< tt, lit< tt)
+
+pub returns-in-0 : goal.returns-in-0
+returns-in-0 c =
+    rule (goal.at.returns-in-0 c).Start 0 0 (lit< tt) (lit< tt) c.in-0.is (c.copy_rows.ensures ∙ whole_is (goal.at.returns-in-0 c).Start)
+
+pub returns-in-1 : goal.returns-in-1
+returns-in-1 c =
+    rule (goal.at.returns-in-1 c).Start 1 0 (lit< tt) (lit< tt) c.in-1.is (c.row_pass.ensures ∙ across_is (goal.at.returns-in-1 c).Start 1)
+
+pub returns-in-2 : goal.returns-in-2
+returns-in-2 c =
+    rule (goal.at.returns-in-2 c).Start 2 0 (lit< tt) (lit< tt) c.in-2.is (c.row_pass-in-2.ensures ∙ across_is (goal.at.returns-in-2 c).Start 2)
+
+pub returns-in-3 : goal.returns-in-3
+returns-in-3 c =
+    rule (goal.at.returns-in-3 c).Start 3 0 (lit< tt) (lit< tt) c.in-3.is (c.row_pass-in-3.ensures ∙ across_is (goal.at.returns-in-3 c).Start 3)
+
+pub returns-in-4 : goal.returns-in-4
+returns-in-4 c =
+    rule (goal.at.returns-in-4 c).Start 0 1 (lit< tt) (lit< tt) c.in-4.is (c.column_pass.ensures ∙ down_is (goal.at.returns-in-4 c).Start 1)
+
+pub returns-in-5 : goal.returns-in-5
+returns-in-5 c =
+    rule (goal.at.returns-in-5 c).Start 1 1 (lit< tt) (lit< tt) c.in-5.is c.both_passes.ensures
+
+pub returns-in-6 : goal.returns-in-6
+returns-in-6 c =
+    rule (goal.at.returns-in-6 c).Start 2 1 (lit< tt) (lit< tt) c.in-6.is c.both_passes-in-6.ensures
+
+pub returns-in-7 : goal.returns-in-7
+returns-in-7 c =
+    rule (goal.at.returns-in-7 c).Start 3 1 (lit< tt) (lit< tt) c.in-7.is c.both_passes-in-7.ensures
+
+pub returns-in-8 : goal.returns-in-8
+returns-in-8 c =
+    rule (goal.at.returns-in-8 c).Start 0 2 (lit< tt) (lit< tt) c.in-8.is (c.column_pass-in-8.ensures ∙ down_is (goal.at.returns-in-8 c).Start 2)
+
+pub returns-in-9 : goal.returns-in-9
+returns-in-9 c =
+    rule (goal.at.returns-in-9 c).Start 1 2 (lit< tt) (lit< tt) c.in-9.is c.both_passes-in-9.ensures
+
+pub returns-in-10 : goal.returns-in-10
+returns-in-10 c =
+    rule (goal.at.returns-in-10 c).Start 2 2 (lit< tt) (lit< tt) c.in-10.is c.both_passes-in-10.ensures
+
+pub returns-in-11 : goal.returns-in-11
+returns-in-11 c =
+    rule (goal.at.returns-in-11 c).Start 3 2 (lit< tt) (lit< tt) c.in-11.is c.both_passes-in-11.ensures
+
+pub returns-in-12 : goal.returns-in-12
+returns-in-12 c =
+    rule (goal.at.returns-in-12 c).Start 0 3 (lit< tt) (lit< tt) c.in-12.is (c.column_pass-in-12.ensures ∙ down_is (goal.at.returns-in-12 c).Start 3)
+
+pub returns-in-13 : goal.returns-in-13
+returns-in-13 c =
+    rule (goal.at.returns-in-13 c).Start 1 3 (lit< tt) (lit< tt) c.in-13.is c.both_passes-in-13.ensures
+
+pub returns-in-14 : goal.returns-in-14
+returns-in-14 c =
+    rule (goal.at.returns-in-14 c).Start 2 3 (lit< tt) (lit< tt) c.in-14.is c.both_passes-in-14.ensures
+
+pub returns-in_default : goal.returns-in_default
+returns-in_default c =
+    let e = last_place c.args.fractions c.requires.1 c.in_default.rest in
+    rule (goal.at.returns-in_default c).Start 3 3 (lit< tt) (lit< tt) e c.both_passes-in_default.ensures

@@ -1,0 +1,6 @@
+-- `refusal::code` meets its contract.
+use borrow.Author.Rules.{rules}
+use Rattle.refusal.proofs.code.Goals as goal
+
+pub returns-in-Refused : goal.returns-in-Refused
+returns-in-Refused c = rw c.in-Refused.is c.number.ensures

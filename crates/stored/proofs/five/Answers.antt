@@ -1,0 +1,38 @@
+-- `stored::five` meets its contract.
+use borrow.Author.Rules.{rules}
+use Prim.Native.Nat.{ℕ, ◌+◌, ◌*◌, ◌-◌, ◌≤◌}
+use native.Mathlib.Omega.{arith}
+use mathlib.Core.Path.{◌≡◌, refl, sym, ap, ◌∙◌}
+use lib.ListN.{length}
+use Rattle.basis.proofs.Lists.{filled, filled_none, filled_set, filled_end}
+use Rattle.basis.specs.Lists.{tabulate}
+use Rattle.stored.specs.Call.{long_at}
+use Rattle.stored.proofs.five.Goals as goal
+
+pub loop-i-init : goal.loop-i-init
+loop-i-init c =
+    let l = c.args.call.now in
+    let p = c.position-from.result in
+    let f : ℕ → ℕ = (λ j. long_at l (p + 8 * j)) in
+    (search rules, refl, sym (filled_none f _))
+
+pub loop-i-preserved : goal.loop-i-preserved
+loop-i-preserved c =
+    let l = c.args.call.now in
+    let p = c.position-from.result in
+    let f : ℕ → ℕ = (λ j. long_at l (p + 8 * j)) in
+    let at = c.loop-i in (
+      search rules,
+      at.invariant.1,
+      filled_set at.i f _ at.out _ at.invariant.2 c.long_at.ensures (omega arith),
+    )
+
+pub returns : goal.returns
+returns c =
+    let l = c.args.call.now in
+    let p = c.position-from.result in
+    let f : ℕ → ℕ = (λ j. long_at l (p + 8 * j)) in
+    let at = c.loop-i in
+    filled_end at.i f _ at.out at.invariant.2 (omega arith)
+    ∙ ap (λ (n : ℕ). tabulate n f) at.invariant.1
+    ∙ ap (λ (p : ℕ). tabulate 5 (λ (j : ℕ). long_at l (p + 8 * j))) c.position-from.ensures

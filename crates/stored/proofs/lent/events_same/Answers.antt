@@ -1,0 +1,6 @@
+-- `stored::lent::events_same` meets its contract.
+use borrow.Author.Rules.{rules}
+use Rattle.stored.proofs.lent.events_same.Goals as goal
+
+pub returns : goal.returns
+returns c = cc

@@ -1,0 +1,18 @@
+-- `stored::signeds_same` meets its contract.
+use borrow.Author.Rules.{rules}
+use Prim.Native.Nat.{ℕ, ◌-◌, ◌≤◌}
+use native.Mathlib.Omega.{arith}
+use mathlib.Core.Path.{◌≡◌, refl, ap, ap₂, ◌∙◌}
+use lib.Dec.{leb}
+use lib.IntN.{ℤ, pos}
+use lib.ListN.{length, get_or}
+use Rattle.basis.proofs.Signed.{of_bits_lem}
+use Rattle.refusal.specs.Test.{in_range}
+use Rattle.stored.specs.Call.{position_of}
+use Rattle.stored.specs.Same.{up_to, answered_of, wanted_signed, signed_is, signeds_same}
+use Rattle.stored.proofs.Each.{up_none, up_more}
+use Rattle.stored.proofs.signeds_same.Given as goal
+
+abbrev pub invariant-loop-i : goal.invariant-loop-i
+invariant-loop-i l =
+    (l.i ≤ l.i-end) × (l.i-end ≡ length l.area) × (l.same ≡ up_to (leb (answered_of l.call l.k) (length l.area)) (signed_is l.call l.k l.area) l.i)

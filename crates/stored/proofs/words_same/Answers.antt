@@ -1,0 +1,48 @@
+-- `stored::words_same` meets its contract.
+use borrow.Author.Rules.{rules}
+use Prim.Native.Nat.{ℕ, ◌-◌, ◌≤◌}
+use native.Mathlib.Omega.{arith}
+use mathlib.Core.Path.{◌≡◌, refl, ap, ap₂, ◌∙◌}
+use lib.Dec.{leb, eqb}
+use lib.ListN.{length, get_or}
+use Rattle.stored.specs.Call.{position_of}
+use Rattle.stored.specs.Same.{up_to, answered_of, wanted_word, word_is, words_same}
+use Rattle.stored.proofs.Each.{up_none, up_more}
+use Rattle.stored.proofs.words_same.Goals as goal
+
+pub loop-i-init : goal.loop-i-init
+loop-i-init c =
+    let s = c.args in
+    let l = s.call.now in
+    let k = s.k in
+    let area = s.area.now in
+    let start = leb (answered_of l k) (length area) in
+    (search rules, refl, ap (λ (n : ℕ). leb n (length area)) c.answered-count.ensures ∙ up_none start (word_is l k area))
+
+pub loop-i-preserved : goal.loop-i-preserved
+loop-i-preserved c =
+    let s = c.args in
+    let l = s.call.now in
+    let k = s.k in
+    let area = s.area.now in
+    let at = c.loop-i in
+    let p = c.position-from.ensures in
+    let n = c.answered-count.ensures in
+    let stored = c.wanted_word-word.ensures ∙ ap₂ (λ (a b : ℕ). wanted_word l a b at.i) p n in (
+      search rules,
+      refl,
+      up_more (leb (answered_of l k) (length area)) (word_is l k area) at.i at.same _ _ at.invariant.2
+          (ap (eqb (get_or area at.i 0)) stored) c.both-same.ensures,
+    )
+
+pub returns : goal.returns
+unfolding words_same
+returns c =
+    let s = c.args in
+    let l = s.call.now in
+    let k = s.k in
+    let area = s.area.now in
+    let start = leb (answered_of l k) (length area) in
+    let at = c.loop-i in
+    let all : at.i ≡ length area = omega arith in
+    at.invariant.2 ∙ ap (up_to start (word_is l k area)) all
