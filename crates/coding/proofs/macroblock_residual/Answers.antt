@@ -18,7 +18,7 @@ start_at c = (goal.at.In-Done c).Start
 
 accepted : (c : In-Done) → let a = c.args in
     residual_reply a.size (length a.y.now) (length a.cb.now) (length a.cr.now) a.place
-    (length a.pred-y.now) (length a.pred-cb.now) (length a.pred-cr.now) (length a.out.now) ≡ Done
+    (length a.pred_y.now) (length a.pred_cb.now) (length a.pred_cr.now) (length a.out.now) ≡ Done
 accepted c = sym c.residual_reply-reply.ensures ∙ c.in-Done.is
 
 pub macroblock_residual-requires : goal.macroblock_residual-requires
@@ -26,9 +26,17 @@ macroblock_residual-requires c =
     residual_accepted _ _ _ _ _ (lentIn (goal.at.macroblock_residual-requires c).Start) _ (accepted (goal.at.macroblock_residual-requires c).In-Done)
 
 pub returns-in-Refused : goal.returns-in-Refused
-returns-in-Refused c = (sym c.in-Refused.is ∙ c.residual_reply-reply.ensures, (refl, λ e. not_done _ e))
+returns-in-Refused c = record {
+      value = sym c.in-Refused.is ∙ c.residual_reply-reply.ensures;
+      out_after = refl;
+      residual_range = λ e. not_done _ e;
+    }
 
 pub returns-in-Done : goal.returns-in-Done
 returns-in-Done c =
     let e = c.macroblock_residual.ensures in
-    (sym (accepted (goal.at.returns-in-Done c).In-Done), (e.0, λ _. e.1))
+    record {
+      value = sym (accepted (goal.at.returns-in-Done c).In-Done);
+      out_after = e.out_after;
+      residual_range = λ _. e.residual_range;
+    }

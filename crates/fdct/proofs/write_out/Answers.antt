@@ -17,7 +17,7 @@ loop-k-init c = (search rules, search rules, search rules, sym (filled_none _ _)
 pub loop-k-preserved : goal.loop-k-preserved
 loop-k-preserved c =
     let l = c.loop-k in
-    let v = of_bits_lem _ c.coefficient_of.type-inv ∙ c.coefficient_of.ensures in
+    let v = of_bits_lem _ c.coefficient_of.type_inv ∙ c.coefficient_of.ensures in
     (search rules, search rules, search rules, filled_set l.k _ _ l.out _ l.invariant.3 v (search rules))
 
 pub returns : goal.returns

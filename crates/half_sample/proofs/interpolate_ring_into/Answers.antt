@@ -16,9 +16,19 @@ pub ring_ready-requires : goal.ring_ready-requires
 ring_ready-requires c = done (goal.at.ring_ready-requires c).In-Done
 
 pub returns-in-Refused : goal.returns-in-Refused
-returns-in-Refused c = (sym c.in-Refused.is ∙ c.ring_reply-reply.ensures, (refl, (refl, refl)))
+returns-in-Refused c = record {
+      value = sym c.in-Refused.is ∙ c.ring_reply-reply.ensures;
+      right_after = refl;
+      below_after = refl;
+      between_after = refl;
+    }
 
 pub returns-in-Done : goal.returns-in-Done
 returns-in-Done c =
     let e = c.ring_ready.ensures in
-    (sym (done (goal.at.returns-in-Done c).In-Done), (e.0, (e.1.0, e.1.1)))
+    record {
+      value = sym (done (goal.at.returns-in-Done c).In-Done);
+      right_after = e.right_after;
+      below_after = e.below_after;
+      between_after = e.between_after;
+    }

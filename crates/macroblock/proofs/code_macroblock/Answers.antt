@@ -14,7 +14,7 @@ abbrev asked : Start → Request
 asked s =
     let a = s.args in
     request a.settings a.reference.now a.geometry a.y.now a.cb.now a.cr.now a.size a.place
-    a.weights.now a.pred-y.now a.pred-cb.now a.pred-cr.now a.lasts.now a.runs.now a.levels.now
+    a.weights.now a.pred_y.now a.pred_cb.now a.pred_cr.now a.lasts.now a.runs.now a.levels.now
 
 abbrev start_at : After-request_reply → Start
 start_at c = (goal.at.After-request_reply c).Start

@@ -44,7 +44,7 @@ pub returns-in-Done : goal.returns-in-Done
 returns-in-Done c =
     let a = c.args in
     let is = c.in-Done.is in
-    let copied : c.luma_block.new.1.1.1.0 ≡ source_luma a.y.now a.size a.place =
+    let copied : c.luma_block.new.out ≡ source_luma a.y.now a.size a.place =
     left _ Done _ _ _ is refl c.luma_block.ensures.out_after in
     ap (λ (n : ℕ). record { reply = Done; sum = n }) (c.activity.ensures ∙ ap activity_of copied)
     ∙ ap (answerAt (goal.at.returns-in-Done c).Start) (sym is ∙ replied (goal.at.returns-in-Done c).After-luma_block)

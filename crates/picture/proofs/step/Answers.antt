@@ -12,7 +12,7 @@ abbrev asked : Start → Request
 asked s =
     let a = s.args in
     request a.settings a.reference.now a.geometry a.y.now a.cb.now a.cr.now a.size (next_place a.run)
-    a.weights.now a.pred-y.now a.pred-cb.now a.pred-cr.now a.lasts.now a.runs.now a.levels.now
+    a.weights.now a.pred_y.now a.pred_cb.now a.pred_cr.now a.lasts.now a.runs.now a.levels.now
 
 abbrev start_at : After-run_reply → Start
 start_at c = (goal.at.After-run_reply c).Start

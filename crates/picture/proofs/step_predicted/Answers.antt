@@ -11,7 +11,7 @@ use Rattle.picture.proofs.step_predicted.Goals as goal
 abbrev asked : Start → PredictedRequest
 asked s =
     let a = s.args in
-    predicted_request a.settings a.rounding a.reference-y.now a.reference-cb.now a.reference-cr.now a.geometry
+    predicted_request a.settings a.rounding a.reference_y.now a.reference_cb.now a.reference_cr.now a.geometry
     a.y.now a.cb.now a.cr.now a.size (next_place a.run) a.weights.now a.lasts.now a.runs.now a.levels.now
 
 abbrev start_at : After-run_reply → Start

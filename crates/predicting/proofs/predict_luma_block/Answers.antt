@@ -33,6 +33,6 @@ returns-in-Done c =
     let e = sym c.in-Done.is ∙ c.mode_number_reply-known.ensures in
     let u = c.mode_of-units.ensures in
     let p = c.predict_luma_block.ensures in record {
-      value = p.0 ∙ ap (replyIn (goal.at.returns-in-Done c).Start) u ∙ ap (λ (r : Reply). and_then r (replyIn (goal.at.returns-in-Done c).Start (mode_of c.args.mode c.args.bpp))) e;
-      out_after = p.1 ∙ ap (λ (m : BVopSampleMode). done c.predict_luma_block.result (luma_in (goal.at.returns-in-Done c).Start m) c.args.out.now) u;
+      value = p.value ∙ ap (replyIn (goal.at.returns-in-Done c).Start) u ∙ ap (λ (r : Reply). and_then r (replyIn (goal.at.returns-in-Done c).Start (mode_of c.args.mode c.args.bpp))) e;
+      out_after = p.out_after ∙ ap (λ (m : BVopSampleMode). done c.predict_luma_block.result (luma_in (goal.at.returns-in-Done c).Start m) c.args.out.now) u;
     }

@@ -14,7 +14,7 @@ use Rattle.predicting.proofs.predict_macroblock.Goals as goal
 module _ (s : Start) where
   -- the three planes and the three areas
   abbrev reference : Samples
-  reference = let a = s.args in samples a.ref-y.now a.ref-cb.now a.ref-cr.now
+  reference = let a = s.args in samples a.ref_y.now a.ref_cb.now a.ref_cr.now
 
   abbrev areas : Samples
   areas = let a = s.args in samples a.y.now a.cb.now a.cr.now

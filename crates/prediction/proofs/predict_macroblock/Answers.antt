@@ -13,7 +13,7 @@ abbrev replyOf : Start → Reply
 replyOf s =
     let a = s.args in
     prediction_reply a.mode a.geometry
-    (lengths_in (samples a.reference-y.now a.reference-cb.now a.reference-cr.now))
+    (lengths_in (samples a.reference_y.now a.reference_cb.now a.reference_cr.now))
     a.motion a.place a.rounding
     (lengths_in (samples a.y.now a.cb.now a.cr.now))
 

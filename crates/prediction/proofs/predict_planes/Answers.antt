@@ -25,7 +25,7 @@ use Rattle.prediction.proofs.predict_planes.Goals as goal
 abbrev ReadyAt : Start → Type 0
 ReadyAt s =
     let a = s.args in
-    PredictionReady a.mode a.geometry (lengths_in (samples a.reference-y.now a.reference-cb.now a.reference-cr.now))
+    PredictionReady a.mode a.geometry (lengths_in (samples a.reference_y.now a.reference_cb.now a.reference_cr.now))
     a.motion a.place a.rounding (lengths_in (samples a.y.now a.cb.now a.cr.now))
 
 ready : (s : Start) → ReadyAt s
@@ -69,7 +69,7 @@ pub predict_ready-requires : goal.predict_ready-requires
 predict_ready-requires c =
     let a = c.args in
     let r = ready (goal.at.predict_ready-requires c).Start in
-    ap (λ (x : Point). macroblock_reply a.mode a.geometry.luma (length a.reference-y.now) a.motion x a.rounding (length a.y.now))
+    ap (λ (x : Point). macroblock_reply a.mode a.geometry.luma (length a.reference_y.now) a.motion x a.rounding (length a.y.now))
     c.corner_at-corner.ensures
     ∙ macroblock-done _ _ _ _ _ _ _ r.mode r.planes.luma r.motions r.rounding_type r.areas.luma
 
@@ -87,8 +87,8 @@ returns c =
     let a = c.args in
     let y =
     c.predict_ready.ensures
-    ∙ ap (λ (o : Point). macroblock_luma a.mode (plane_of a.reference-y.now a.geometry.luma) a.motion o a.rounding)
+    ∙ ap (λ (o : Point). macroblock_luma a.mode (plane_of a.reference_y.now a.geometry.luma) a.motion o a.rounding)
     c.corner_at-corner.ensures in
-    let cb = chroma_is (goal.at.returns c).After-vector_of-vector a.reference-cb.now _ c.predict_chroma.ensures in
-    let cr = chroma_is (goal.at.returns c).After-vector_of-vector a.reference-cr.now _ c.predict_chroma-2.ensures in
+    let cb = chroma_is (goal.at.returns c).After-vector_of-vector a.reference_cb.now _ c.predict_chroma.ensures in
+    let cr = chroma_is (goal.at.returns c).After-vector_of-vector a.reference_cr.now _ c.predict_chroma-2.ensures in
     λ i. samples (y i) (cb i) (cr i)

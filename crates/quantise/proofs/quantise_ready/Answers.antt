@@ -9,7 +9,7 @@ use Rattle.quantise.proofs.quantise_ready.Goals.{Start}
 use Rattle.quantise.proofs.quantise_ready.Goals as goal
 
 -- the method that is asked for, once a test has told it: what was accepted, and what is to be written
-module _ (s : Start) {t : Bool} (told : s.args.first-method ≡ t) where
+module _ (s : Start) {t : Bool} (told : s.args.first_method ≡ t) where
   accepted : let a = s.args in quantise_reply a.coefficients.now a.quantiser t a.weights.now (length a.out.now) ≡ Done
   accepted =
       let a = s.args in
@@ -17,7 +17,7 @@ module _ (s : Start) {t : Bool} (told : s.args.first-method ≡ t) where
 
   asked : let a = s.args in
       block_levels t a.quantiser a.weights.now a.coefficients.now
-      ≡ block_levels a.first-method a.quantiser a.weights.now a.coefficients.now
+      ≡ block_levels a.first_method a.quantiser a.weights.now a.coefficients.now
   asked =
       let a = s.args in
       sym (ap (λ (t : Bool). block_levels t a.quantiser a.weights.now a.coefficients.now) told)

@@ -48,7 +48,7 @@ count s = (s.args.site.width + 1) * (s.args.site.height + 1)
 -- what the copy leaves at the buffer's start, and what stands behind it
 module _ (c : After-copy_block) where
   abbrev buffer : List ℕ
-  buffer = c.copy_block.new.1.1.1.1.1.0
+  buffer = c.copy_block.new.out
 
   abbrev rest : List ℕ
   rest = drop (count (goal.at.After-copy_block c).Start) (replicate 289 0)
@@ -114,6 +114,6 @@ returns c =
     let r = copied (plane_of a.samples.now a.geometry) o.x o.y in
     c.interpolate_place.ensures
     ∙ ap₂ (λ (m n : ℕ). place_at a.site.width a.site.height rc m n (buffer (goal.at.returns c).After-copy_block ++ rest (goal.at.returns c).After-copy_block)) c.largest_sample.ensures fractions
-    ∙ buffer_copy rc (largest a.bits-per-pixel) a.site.width a.site.height x.fraction y.fraction r
+    ∙ buffer_copy rc (largest a.bits_per_pixel) a.site.width a.site.height x.fraction y.fraction r
     (buffer (goal.at.returns c).After-copy_block ++ rest (goal.at.returns c).After-copy_block) (rest (goal.at.returns c).After-copy_block) (omega (arith, f.side_w.low)) (omega (arith, f.side_h.low)) (rest_below a.vector.x) (rest_below a.vector.y)
     (ap (λ (b : List ℕ). b ++ rest (goal.at.returns c).After-copy_block) (copy (goal.at.returns c).After-copy_block))

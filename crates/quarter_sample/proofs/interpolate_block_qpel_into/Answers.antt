@@ -19,7 +19,7 @@ abbrev blockIn : Start → Reply
 blockIn s = let a = s.args in block_reply a.geometry (length a.samples.now) a.vector a.site (length a.out.now)
 
 abbrev replyIn : Start → Reply
-replyIn s = let a = s.args in quarter_reply a.bits-per-pixel a.geometry (length a.samples.now) a.vector a.site (length a.out.now)
+replyIn s = let a = s.args in quarter_reply a.bits_per_pixel a.geometry (length a.samples.now) a.vector a.site (length a.out.now)
 
 abbrev start : After-and_then-reply → Start
 start c = (goal.at.After-and_then-reply c).Start

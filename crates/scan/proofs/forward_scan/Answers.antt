@@ -19,11 +19,19 @@ pub scan_ready-requires : goal.scan_ready-requires
 scan_ready-requires c = accepted (goal.at.scan_ready-requires c).In-Done
 
 pub returns-in-Refused : goal.returns-in-Refused
-returns-in-Refused c = (sym c.in-Refused.is ∙ c.scan_reply-reply.ensures, (refl, λ e. not_done _ e))
+returns-in-Refused c = record {
+      value = sym c.in-Refused.is ∙ c.scan_reply-reply.ensures;
+      out_after = refl;
+      out_after_2 = λ e. not_done _ e;
+    }
 
 pub returns-in-Done : goal.returns-in-Done
 returns-in-Done c =
     let a = c.args in
     let full = (scan_lengths a.levels.now a.scan (length a.out.now) (accepted (goal.at.returns-in-Done c).In-Done)).0 in
     let put = c.scan_ready.ensures in
-    (sym (accepted (goal.at.returns-in-Done c).In-Done), (put, λ _. ap (unscanned (grid_of a.scan)) put ∙ (returns_to a.scan).by_rows a.levels.now full))
+    record {
+      value = sym (accepted (goal.at.returns-in-Done c).In-Done);
+      out_after = put;
+      out_after_2 = λ _. ap (unscanned (grid_of a.scan)) put ∙ (returns_to a.scan).by_rows a.levels.now full;
+    }

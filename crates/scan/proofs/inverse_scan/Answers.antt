@@ -19,11 +19,19 @@ pub inverse_ready-requires : goal.inverse_ready-requires
 inverse_ready-requires c = accepted (goal.at.inverse_ready-requires c).In-Done
 
 pub returns-in-Refused : goal.returns-in-Refused
-returns-in-Refused c = (sym c.in-Refused.is ∙ c.scan_reply-reply.ensures, (refl, λ e. not_done _ e))
+returns-in-Refused c = record {
+      value = sym c.in-Refused.is ∙ c.scan_reply-reply.ensures;
+      out_after = refl;
+      out_after_2 = λ e. not_done _ e;
+    }
 
 pub returns-in-Done : goal.returns-in-Done
 returns-in-Done c =
     let a = c.args in
     let full = (scan_lengths a.levels.now a.scan (length a.out.now) (accepted (goal.at.returns-in-Done c).In-Done)).0 in
     let put = c.inverse_ready.ensures in
-    (sym (accepted (goal.at.returns-in-Done c).In-Done), (put, λ _. ap (scanned (grid_of a.scan)) put ∙ (returns_to a.scan).by_scan a.levels.now full))
+    record {
+      value = sym (accepted (goal.at.returns-in-Done c).In-Done);
+      out_after = put;
+      out_after_2 = λ _. ap (scanned (grid_of a.scan)) put ∙ (returns_to a.scan).by_scan a.levels.now full;
+    }

@@ -68,7 +68,7 @@ start_at c = (goal.at.After-eight_samples c).Start
 
 -- the local block
 abbrev local : After-eight_samples → List ℕ
-local c = c.eight_samples.new.1.1.0
+local c = c.eight_samples.new.out
 
 abbrev samples_at : After-search_eight-won → After-eight_samples
 samples_at c = (goal.at.After-search_eight-won c).After-eight_samples

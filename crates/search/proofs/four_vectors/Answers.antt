@@ -36,12 +36,12 @@ start_at c = (goal.at.After-luma_block c).Start
 
 -- the local block
 abbrev local : After-luma_block → List ℕ
-local c = c.luma_block.new.1.1.1.0
+local c = c.luma_block.new.out
 
 copied_is : (c : After-luma_block) → local c ≡ samples_in (goal.at.After-luma_block c).Start
 copied_is c =
     let r = c.luma_block.ensures in
-    luma_is c.args.source.now c.args.size c.args.place _ _ _ c.requires.0.luma refl r.0 r.1
+    luma_is c.args.source.now c.args.size c.args.place _ _ _ c.requires.0.luma refl r.value r.out_after
 
 abbrev luma_at : After-macroblock_target-target → After-luma_block
 luma_at c = (goal.at.After-macroblock_target-target c).After-luma_block

@@ -24,7 +24,7 @@ loop-i-preserved c =
     let p = c.position-from.result in
     let f : ℕ → ℤ = (λ j. signed_at l (p + 4 * j)) in
     let at = c.loop-i in
-    let v = of_bits_lem c.signed_at.result c.signed_at.type-inv ∙ c.signed_at.ensures in (
+    let v = of_bits_lem c.signed_at.result c.signed_at.type_inv ∙ c.signed_at.ensures in (
       search rules,
       at.invariant.1,
       filled_set at.i f _ at.out _ at.invariant.2 v (omega arith),

@@ -27,42 +27,42 @@ block_at s = s.args.residual.now
 abbrev start_at : After-forward_dct_8x8 → Start
 start_at c = (goal.at.After-forward_dct_8x8 c).Start
 
-transformed_is : (c : After-forward_dct_8x8) → c.forward_dct_8x8.new.1.0 ≡ coefficients (block_at (goal.at.After-forward_dct_8x8 c).Start)
+transformed_is : (c : After-forward_dct_8x8) → c.forward_dct_8x8.new.out ≡ coefficients (block_at (goal.at.After-forward_dct_8x8 c).Start)
 transformed_is c =
     let e = c.forward_dct_8x8.ensures in
-    left _ _ _ _ _ e.0 (transform_done (block_at (goal.at.After-forward_dct_8x8 c).Start) c.requires.long c.requires.small) e.1
+    left _ _ _ _ _ e.value (transform_done (block_at (goal.at.After-forward_dct_8x8 c).Start) c.requires.long c.requires.small) e.out_after
 
-quantised_is : (c : After-quantise_block) → c.quantise_block.new.1.1.1.1.0 ≡ quantised (quantisingAt (goal.at.After-quantise_block c).Start) (block_at (goal.at.After-quantise_block c).Start)
+quantised_is : (c : After-quantise_block) → c.quantise_block.new.out ≡ quantised (quantisingAt (goal.at.After-quantise_block c).Start) (block_at (goal.at.After-quantise_block c).Start)
 unfolding quantised
 quantised_is c =
     let h = quantisingAt (goal.at.After-quantise_block c).Start in
     let e = c.quantise_block.ensures in
-    left _ _ _ _ _ e.0
+    left _ _ _ _ _ e.value
     (ap (λ (l : List ℤ). quantise_reply l h.quantiser h.first h.weights 64) (transformed_is (goal.at.After-quantise_block c).After-forward_dct_8x8)
     ∙ quantise_done h c.requires.quantisable (block_at (goal.at.After-quantise_block c).Start))
-    e.1.0
+    e.out_after
     ∙ ap (block_levels h.first h.quantiser h.weights) (transformed_is (goal.at.After-quantise_block c).After-forward_dct_8x8)
 
-scanned_is : (c : After-forward_scan) → c.forward_scan.new.1.1.0 ≡ in_scan (quantisingAt (goal.at.After-forward_scan c).Start) (block_at (goal.at.After-forward_scan c).Start)
+scanned_is : (c : After-forward_scan) → c.forward_scan.new.out ≡ in_scan (quantisingAt (goal.at.After-forward_scan c).Start) (block_at (goal.at.After-forward_scan c).Start)
 scanned_is c =
     let h = quantisingAt (goal.at.After-forward_scan c).Start in
     let e = c.forward_scan.ensures in
-    left _ _ _ _ _ e.0 (ap (λ (l : List ℤ). scan_reply l h.scan 64) (quantised_is (goal.at.After-forward_scan c).After-quantise_block) ∙ scan_done h c.requires.quantisable (block_at (goal.at.After-forward_scan c).Start)) e.1.0
+    left _ _ _ _ _ e.value (ap (λ (l : List ℤ). scan_reply l h.scan 64) (quantised_is (goal.at.After-forward_scan c).After-quantise_block) ∙ scan_done h c.requires.quantisable (block_at (goal.at.After-forward_scan c).Start)) e.out_after
     ∙ ap (scanned (grid_of h.scan)) (quantised_is (goal.at.After-forward_scan c).After-quantise_block)
 
 pub returns : goal.returns
 returns c =
     let h = quantisingAt (goal.at.returns c).Start in
-    let l = c.forward_scan.new.1.1.0 in
+    let l = c.forward_scan.new.out in
     let is = scanned_is (goal.at.returns c).After-forward_scan in
     let e = c.levels_to_events-events.ensures in
     let d : events_reply l (length c.args.lasts.now) (length c.args.runs.now) (length c.args.levels.now) ≡ Done =
     ap (λ (l : List ℤ). events_reply l (length c.args.lasts.now) (length c.args.runs.now) (length c.args.levels.now)) is
     ∙ events-done h c.requires.quantisable (block_at (goal.at.returns c).Start) _ _ _ c.requires.lasts_long c.requires.runs_long c.requires.levels_long in
-    let r = events_reply_lem l _ _ _ _ e.0 d in (
-      events_count l _ _ _ _ e.0 d ∙ ap (λ (l : List ℤ). length (events_of l)) is,
+    let r = events_reply_lem l _ _ _ _ e.value d in (
+      events_count l _ _ _ _ e.value d ∙ ap (λ (l : List ℤ). length (events_of l)) is,
       same_areas
-          (left _ Done _ _ _ r refl e.1.0 ∙ ap lasts_area is)
-          (left _ Done _ _ _ r refl e.1.1.0 ∙ ap runs_area is)
-          (left _ Done _ _ _ r refl e.1.1.1.0 ∙ ap levels_area is),
+          (left _ Done _ _ _ r refl e.lasts_after ∙ ap lasts_area is)
+          (left _ Done _ _ _ r refl e.runs_after ∙ ap runs_area is)
+          (left _ Done _ _ _ r refl e.out_levels_after ∙ ap levels_area is),
     )

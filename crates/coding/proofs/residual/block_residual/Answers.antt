@@ -17,22 +17,22 @@ pub returns-then-b-lt4 : goal.returns-then-b-lt4
 returns-then-b-lt4 c =
     let e = c.luma_residual.ensures in
     record {
-      out_after = e.0 ∙ luma_block (sourceIn (goal.at.returns-then-b-lt4 c).Start) (lentIn (goal.at.returns-then-b-lt4 c).Start) c.args.b (lt-ltb _ _ c.if-b-lt4.true);
-      residual_range = e.1;
+      out_after = e.out_after ∙ luma_block (sourceIn (goal.at.returns-then-b-lt4 c).Start) (lentIn (goal.at.returns-then-b-lt4 c).Start) c.args.b (lt-ltb _ _ c.if-b-lt4.true);
+      residual_range = e.residual_range;
     }
 
 pub returns-then-b-eq4 : goal.returns-then-b-eq4
 returns-then-b-eq4 c =
     let e = c.chroma_residual.ensures in
     record {
-      out_after = e.0 ∙ blue_block (sourceIn (goal.at.returns-then-b-eq4 c).Start) (lentIn (goal.at.returns-then-b-eq4 c).Start) c.args.b (le-ltb _ _ c.if-b-lt4.false) (eq-eqb _ _ c.if-b-eq4.true);
-      residual_range = e.1;
+      out_after = e.out_after ∙ blue_block (sourceIn (goal.at.returns-then-b-eq4 c).Start) (lentIn (goal.at.returns-then-b-eq4 c).Start) c.args.b (le-ltb _ _ c.if-b-lt4.false) (eq-eqb _ _ c.if-b-eq4.true);
+      residual_range = e.residual_range;
     }
 
 pub returns : goal.returns
 returns c =
     let e = c.chroma_residual-2.ensures in
     record {
-      out_after = e.0 ∙ red_block (sourceIn (goal.at.returns c).Start) (lentIn (goal.at.returns c).Start) c.args.b (le-ltb _ _ c.if-b-lt4.false) (ne_eqb _ _ c.if-b-eq4.false);
-      residual_range = e.1;
+      out_after = e.out_after ∙ red_block (sourceIn (goal.at.returns c).Start) (lentIn (goal.at.returns c).Start) c.args.b (le-ltb _ _ c.if-b-lt4.false) (ne_eqb _ _ c.if-b-eq4.false);
+      residual_range = e.residual_range;
     }

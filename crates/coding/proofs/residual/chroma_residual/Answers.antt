@@ -27,7 +27,7 @@ bounds-out-k c = omega (arith, c.loop-k.invariant.long)
 
 pub loop-k-preserved : goal.loop-k-preserved
 loop-k-preserved c =
-    let e = of_bits_lem _ c.difference.type-inv in
+    let e = of_bits_lem _ c.difference.type_inv in
     stored_more (less_at c.args.source.now c.args.prediction.now) c.args.out.now c.loop-k.out c.loop-k.k _ c.loop-k.invariant (omega arith)
     (e ∙ c.difference.ensures.0) (subst (λ (z : ℤ). in_range (negsuc 254) (pos 255) z ≡ true) (sym e) c.difference.ensures.1)
 

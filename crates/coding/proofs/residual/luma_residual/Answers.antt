@@ -30,7 +30,7 @@ pub loop-k-preserved : goal.loop-k-preserved
 loop-k-preserved c =
     let n = c.args.n in
     let k = c.loop-k.k in
-    let e = of_bits_lem _ c.difference.type-inv in
+    let e = of_bits_lem _ c.difference.type_inv in
     stored_more (less_at c.args.source.now c.args.prediction.now n) c.args.out.now c.loop-k.out k _ c.loop-k.invariant (omega arith)
     (e
     ∙ c.difference.ensures.0

@@ -15,19 +15,19 @@ abbrev start_at : After-luma_block → Start
 start_at c = (goal.at.After-luma_block c).Start
 
 luma_copied : (c : After-luma_block) → let a = c.args in
-    c.luma_block.new.1.1.1.0 ≡ source_luma a.y.now a.size a.place
+    c.luma_block.new.out ≡ source_luma a.y.now a.size a.place
 luma_copied c =
     let a = c.args in
     luma_is a.y.now a.size a.place _ _ _ (luma_alone _ _ _ _ _ c.requires.source) refl c.luma_block.ensures.value c.luma_block.ensures.out_after
 
 blue_copied : (c : After-chroma_block) → let a = c.args in
-    c.chroma_block.new.1.1.1.0 ≡ source_chroma a.cb.now a.size a.place
+    c.chroma_block.new.out ≡ source_chroma a.cb.now a.size a.place
 blue_copied c =
     let a = c.args in
     chroma_is a.cb.now a.size a.place _ _ _ (blue_alone _ _ _ _ _ c.requires.source) refl c.chroma_block.ensures.value c.chroma_block.ensures.out_after
 
 red_copied : (c : After-chroma_block-2) → let a = c.args in
-    c.chroma_block-2.new.1.1.1.0 ≡ source_chroma a.cr.now a.size a.place
+    c.chroma_block-2.new.out ≡ source_chroma a.cr.now a.size a.place
 red_copied c =
     let a = c.args in
     chroma_is a.cr.now a.size a.place _ _ _ (red_alone _ _ _ _ _ c.requires.source) refl c.chroma_block-2.ensures.value c.chroma_block-2.ensures.out_after
@@ -35,12 +35,12 @@ red_copied c =
 pub returns : goal.returns
 returns c =
     let a = c.args in
-    let p = samples a.pred-y.now a.pred-cb.now a.pred-cr.now in
+    let p = samples a.pred_y.now a.pred_cb.now a.pred_cr.now in
     let luma = source_luma a.y.now a.size a.place in
     let blue = source_chroma a.cb.now a.size a.place in
     let e = c.six_residuals.ensures in record {
-      out_after = e.0
-          ∙ ap₂ (λ (x y : List ℕ). residual_of (samples x y c.chroma_block-2.new.1.1.1.0) p) (luma_copied (goal.at.returns c).After-luma_block) (blue_copied (goal.at.returns c).After-chroma_block)
+      out_after = e.out_after
+          ∙ ap₂ (λ (x y : List ℕ). residual_of (samples x y c.chroma_block-2.new.out) p) (luma_copied (goal.at.returns c).After-luma_block) (blue_copied (goal.at.returns c).After-chroma_block)
           ∙ ap (λ (z : List ℕ). residual_of (samples luma blue z) p) (red_copied (goal.at.returns c).After-chroma_block-2);
-      residual_range = e.1;
+      residual_range = e.residual_range;
     }

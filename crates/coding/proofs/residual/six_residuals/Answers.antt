@@ -45,8 +45,8 @@ loop-b-preserved c =
       omega arith,
       c.loop-b.invariant.1,
       omega arith,
-      laid_put 64 r (row-length (goal.at.loop-b-preserved c).Start) c.loop-b.b c.args.out.now c.loop-b.out _ c.loop-b.invariant.3 e.0,
-      below_more _ _ c.loop-b.invariant.4 (subst (ResidualRange 64) e.0 e.1),
+      laid_put 64 r (row-length (goal.at.loop-b-preserved c).Start) c.loop-b.b c.args.out.now c.loop-b.out _ c.loop-b.invariant.3 e.out_after,
+      below_more _ _ c.loop-b.invariant.4 (subst (ResidualRange 64) e.out_after e.residual_range),
     )
 
 pub returns : goal.returns

@@ -38,7 +38,7 @@ nearest_up-requires c =
 pub with_sign-requires : goal.with_sign-requires
 with_sign-requires c =
     let s = clamped _ _ _ _ c.known.ensures c.at_most.ensures c.at_least-z.ensures in
-    let n = nearest _ _ c.nearest_up.result c.nearest_up.type-inv c.nearest_up.ensures c.size.ensures in
+    let n = nearest _ _ c.nearest_up.result c.nearest_up.type_inv c.nearest_up.ensures c.size.ensures in
     le_trans (le_of_eq (ap nat_abs n)) (le_trans s.most (lit≤ tt))
 
 pub returns : goal.returns
@@ -46,7 +46,7 @@ unfolding of_bits
 returns c =
     let z = c.at_least-z.result in
     let called = c.nearest_up in
-    of_bits_lem c.with_sign.result c.with_sign.type-inv
+    of_bits_lem c.with_sign.result c.with_sign.type_inv
     ∙ c.with_sign.ensures
     ∙ ap (λ (n : ℤ). cond (lt z zero_double) (pos 0 -ℤ n) n) (nearest z _ called.result called.type-inv called.ensures c.size.ensures)
     ∙ signed_size _ z (clamped _ _ _ z c.known.ensures c.at_most.ensures c.at_least-z.ensures)

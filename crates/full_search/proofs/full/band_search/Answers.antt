@@ -38,7 +38,7 @@ firstPlace s = moved_to s.args.target.corner s.args.first.from
 
 -- what the band holds
 held : (c : After-copy_block)
-    → c.copy_block.new.1.1.1.1.1.0 ≡ copied_block (planeIn (goal.at.After-copy_block c).Start) (firstPlace (goal.at.After-copy_block c).Start) (width_of (goal.at.After-copy_block c).Start) 28
+    → c.copy_block.new.out ≡ copied_block (planeIn (goal.at.After-copy_block c).Start) (firstPlace (goal.at.After-copy_block c).Start) (width_of (goal.at.After-copy_block c).Start) 28
 held c =
     let a = c.args in
     let p = c.requires in
@@ -100,7 +100,7 @@ sixteen_row-b-requires c =
     let a = s.args in
     let i = c.loop-i.i in
     let long = copy_length (planeIn s) (firstPlace s) (width_of s) 28 _ (held (goal.at.sixteen_row-b-requires c).After-copy_block) in
-    let band = c.copy_block.new.1.1.1.1.1.0 in
+    let band = c.copy_block.new.out in
     let lines : Lines = record { first = 4 * i * width_of s; stride = width_of s } in
     subst (λ (r : Row). RowReady 16 a.source.now band lines r) (sym c.row_below-row.ensures)
     (record {

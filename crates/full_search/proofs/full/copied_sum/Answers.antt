@@ -16,7 +16,7 @@ start c = (goal.at.After-copy_block c).Start
 -- what the area then holds
 held : (c : After-copy_block)
     → let s = c.args in
-    c.copy_block.new.1.1.1.1.1.0 ≡ copied_block (plane_of s.reference.now s.target.geometry) s.at s.target.side s.target.side
+    c.copy_block.new.out ≡ copied_block (plane_of s.reference.now s.target.geometry) s.at s.target.side s.target.side
 held c =
     let a = c.args in
     let p = c.requires in
@@ -30,7 +30,7 @@ block-requires c =
     let side = a.target.side in (
       p.is_side_is,
       source_fits side a.source.now p.source_fits,
-      listed_fits side c.copy_block.new.1.1.1.1.1.0
+      listed_fits side c.copy_block.new.out
           (copy_length (plane_of a.reference.now a.target.geometry) a.at side side _ (held (goal.at.block-requires c).After-copy_block)),
     )
 

@@ -36,8 +36,8 @@ from_is : (c : After-lowered-2)
     → ◌≡◌ {A = MotionVector} (record { x = to_z w32 (of_z w32 c.lowered.result); y = to_z w32 (of_z w32 c.lowered-2.result) })
     (record { x = c.args.c.x -ℤ pos 3; y = c.args.winner.y -ℤ pos 3 })
 from_is c =
-    let x = to_z-of_z (sfits_of {w = w32} c.lowered.type-inv) ∙ c.lowered.ensures ∙ ap (λ (z : ℤ). z -ℤ pos 3) (across (goal.at.After-lowered-2 c).After-struct_told-1) in
-    let y = to_z-of_z (sfits_of {w = w32} c.lowered-2.type-inv) ∙ c.lowered-2.ensures ∙ ap (λ (z : ℤ). z -ℤ pos 3) (along (goal.at.After-lowered-2 c).After-struct_told-2-1) in
+    let x = to_z-of_z (sfits_of {w = w32} c.lowered.type_inv) ∙ c.lowered.ensures ∙ ap (λ (z : ℤ). z -ℤ pos 3) (across (goal.at.After-lowered-2 c).After-struct_told-1) in
+    let y = to_z-of_z (sfits_of {w = w32} c.lowered-2.type_inv) ∙ c.lowered-2.ensures ∙ ap (λ (z : ℤ). z -ℤ pos 3) (along (goal.at.After-lowered-2 c).After-struct_told-2-1) in
     λ i. record { x = x i; y = y i }
 
 pub down-requires : goal.down-requires

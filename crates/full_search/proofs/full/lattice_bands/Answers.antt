@@ -87,10 +87,10 @@ band_search-b-requires c =
       best_small = kept_small (costOf (goal.at.band_search-b-requires c).Start) (rows_below a.first j) a.best c.loop-j.b c.loop-j.invariant.2 c.requires.0.best_small;
     })
 
-lent : (k : After-band_search-b) → 0 + length k.band_search-b.new.1.1.1.0 ≡ size_of (goal.at.After-band_search-b k).Start
+lent : (k : After-band_search-b) → 0 + length k.band_search-b.new.band ≡ size_of (goal.at.After-band_search-b k).Start
 lent k =
     let size = size_of (goal.at.After-band_search-b k).Start in
-    none (length k.band_search-b.new.1.1.1.0)
+    none (length k.band_search-b.new.band)
     ∙ k.band_search-b.auto.1.1.1.0
     ∙ length-take (size - 0) k.loop-j.band
     ∙ part_length _ _ (room (goal.at.After-band_search-b k).In-loop-j)
@@ -116,7 +116,7 @@ loop-j-preserved c =
     let b = c.loop-j.b in
     let n = c.band_rows-n.result in (
       omega (arith, c.loop-j-test.true, c.band_rows-n.ensures),
-      put_length c.loop-j.band c.band_search-b.new.1.1.1.0 0 (size_of (goal.at.loop-j-preserved c).Start) (lent (goal.at.loop-j-preserved c).After-band_search-b) (room (goal.at.loop-j-preserved c).In-loop-j) ∙ c.loop-j.invariant.1,
+      put_length c.loop-j.band c.band_search-b.new.band 0 (size_of (goal.at.loop-j-preserved c).Start) (lent (goal.at.loop-j-preserved c).After-band_search-b) (room (goal.at.loop-j-preserved c).In-loop-j) ∙ c.loop-j.invariant.1,
       band_more (costOf (goal.at.loop-j-preserved c).Start) a.best b c.band_search-b.result a.first c.loop-j.j n c.loop-j.invariant.2
           (c.band_search-b.ensures ∙ ap (λ (r : Row). kept_of (costOf (goal.at.loop-j-preserved c).Start) b (rows_below r n)) c.row_below-row.ensures),
     )

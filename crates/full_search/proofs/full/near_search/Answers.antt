@@ -22,13 +22,13 @@ abbrev planeIn : Start → Plane
 planeIn s = plane_of s.args.reference.now s.args.target.geometry
 
 -- what the patch holds
-held : (c : After-copy_block) → NearPatch c.copy_block.new.1.1.1.1.1.0 (planeIn (goal.at.After-copy_block c).Start) c.args.target.corner
+held : (c : After-copy_block) → NearPatch c.copy_block.new.out (planeIn (goal.at.After-copy_block c).Start) c.args.target.corner
 held c =
     let a = c.args in
     copy_is a.reference.now a.target.geometry c.moved_to-at.result (moved_to a.target.corner near_square.from) 32 32
     c.copy_block.result _ _ c.requires.0.reference refl c.moved_to-at.ensures c.copy_block.ensures.value c.copy_block.ensures.out_after
 
-long : (c : After-copy_block) → length c.copy_block.new.1.1.1.1.1.0 ≡ 1024
+long : (c : After-copy_block) → length c.copy_block.new.out ≡ 1024
 long c = copy_length (planeIn (goal.at.After-copy_block c).Start) (moved_to c.args.target.corner near_square.from) 32 32 _ (held c)
 
 pub moved_to-at-requires : goal.moved_to-at-requires

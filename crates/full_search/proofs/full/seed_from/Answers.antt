@@ -25,13 +25,13 @@ small z u e p q =
 across : (c : After-divided)
     → to_z w32 (of_z w32 c.divided.result) ≡ quot_z c.args.seed.x (pos (units_per_pel c.args.mode))
 across c =
-    to_z-of_z (sfits_of {w = w32} c.divided.type-inv) ∙ c.divided.ensures
+    to_z-of_z (sfits_of {w = w32} c.divided.type_inv) ∙ c.divided.ensures
     ∙ ap (λ (z : ℤ). quot_z z (pos (units_per_pel c.args.mode))) (of_bits_lem c.args.seed.x c.struct_told-1.given.0.1)
 
 along : (c : After-divided-2)
     → to_z w32 (of_z w32 c.divided-2.result) ≡ quot_z c.args.seed.y (pos (units_per_pel c.args.mode))
 along c =
-    to_z-of_z (sfits_of {w = w32} c.divided-2.type-inv) ∙ c.divided-2.ensures
+    to_z-of_z (sfits_of {w = w32} c.divided-2.type_inv) ∙ c.divided-2.ensures
     ∙ ap (λ (z : ℤ). quot_z z (pos (units_per_pel c.args.mode))) (of_bits_lem c.args.seed.y c.struct_told-2-1.given.1.0.1)
 
 pub lowered-requires : goal.lowered-requires
@@ -44,6 +44,6 @@ lowered-requires-2 c =
 
 pub returns : goal.returns
 returns c =
-    let x = to_z-of_z (sfits_of {w = w32} c.lowered.type-inv) ∙ c.lowered.ensures ∙ ap (λ (z : ℤ). z -ℤ pos 2) (across (goal.at.returns c).After-divided) in
-    let y = to_z-of_z (sfits_of {w = w32} c.lowered-2.type-inv) ∙ c.lowered-2.ensures ∙ ap (λ (z : ℤ). z -ℤ pos 2) (along (goal.at.returns c).After-divided-2) in
+    let x = to_z-of_z (sfits_of {w = w32} c.lowered.type_inv) ∙ c.lowered.ensures ∙ ap (λ (z : ℤ). z -ℤ pos 2) (across (goal.at.returns c).After-divided) in
+    let y = to_z-of_z (sfits_of {w = w32} c.lowered-2.type_inv) ∙ c.lowered-2.ensures ∙ ap (λ (z : ℤ). z -ℤ pos 2) (along (goal.at.returns c).After-divided-2) in
     λ i. record { x = x i; y = y i }

@@ -32,7 +32,7 @@ firstPlace s = moved_to s.args.target.corner s.args.square.from
 -- what the patch holds
 held : (c : After-copy_block)
     → let a = c.args in
-    c.copy_block.new.1.1.1.1.1.0
+    c.copy_block.new.out
     ≡ copied_block (plane_of a.reference.now a.target.geometry) (firstPlace (goal.at.After-copy_block c).Start) (width_of (goal.at.After-copy_block c).Start) (width_of (goal.at.After-copy_block c).Start)
 held c =
     let a = c.args in
@@ -91,7 +91,7 @@ row_search-b-requires c =
     let a = s.args in
     let side = a.target.side in
     let long = copy_length (plane_of a.reference.now a.target.geometry) (firstPlace s) (width_of s) (width_of s) _ (held (goal.at.row_search-b-requires c).After-copy_block) in
-    let patch = c.copy_block.new.1.1.1.1.1.0 in
+    let patch = c.copy_block.new.out in
     let lines : Lines = record { first = c.loop-j.j * width_of s; stride = width_of s } in
     subst (λ (r : Row). RowReady side a.source.now patch lines r) (sym c.square_row-row.ensures)
     (record {

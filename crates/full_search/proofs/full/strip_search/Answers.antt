@@ -24,7 +24,7 @@ firstPlace s = moved_to s.args.target.corner s.args.row.from
 -- what the strip then holds
 held : (c : After-copy_block)
     → let a = c.args in
-    c.copy_block.new.1.1.1.1.1.0
+    c.copy_block.new.out
     ≡ copied_block (plane_of a.reference.now a.target.geometry) (firstPlace (goal.at.After-copy_block c).Start) (width_of (goal.at.After-copy_block c).Start) a.target.side
 held c =
     let a = c.args in

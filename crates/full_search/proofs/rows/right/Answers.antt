@@ -11,7 +11,7 @@ pub returns : goal.returns
 returns c =
     let d = c.args.d in
     let x =
-    to_z-of_z (sfits_of {w = w32} c.shifted.type-inv) ∙ c.shifted.ensures
+    to_z-of_z (sfits_of {w = w32} c.shifted.type_inv) ∙ c.shifted.ensures
     ∙ ap (λ (z : ℤ). z +ℤ pos c.args.by) (of_bits_lem d.x c.struct_told-1.given.0.1) in
     let y = of_bits_lem d.y c.struct_told-2-1.given.1.0.1 in
     λ i. record { x = x i; y = y i }

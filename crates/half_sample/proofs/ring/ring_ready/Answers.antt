@@ -37,10 +37,8 @@ pub returns : goal.returns
 unfolding ring_grid
 returns c =
     let a = c.args in
-    let f = facts (goal.at.returns c).Start in (
-      c.right_of.ensures,
-      (
-        c.below_of.ensures ∙ ap (ring_grid a.patch.now a.stride false true a.rounding) f.1,
-        c.between_four.ensures ∙ ap (ring_grid a.patch.now a.stride true true a.rounding) f.2,
-      ),
-    )
+    let f = facts (goal.at.returns c).Start in record {
+      right_after = c.right_of.ensures;
+      below_after = c.below_of.ensures ∙ ap (ring_grid a.patch.now a.stride false true a.rounding) f.1;
+      between_after = c.between_four.ensures ∙ ap (ring_grid a.patch.now a.stride true true a.rounding) f.2;
+    }

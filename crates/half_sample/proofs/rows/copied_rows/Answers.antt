@@ -37,7 +37,7 @@ module _ (c : After-copy_block) where
   height = c.samples_for-lines.result
 
   abbrev buffer : List ℕ
-  buffer = c.copy_block.new.1.1.1.1.1.0
+  buffer = c.copy_block.new.out
 
   columns_is : width ≡ columns (goal.at.After-copy_block c).Start
   columns_is = c.samples_for-columns.ensures

@@ -12,4 +12,4 @@ returns c =
     let a = c.args in
     let t = c.write_chroma.ensures in
     numbered (λ (x : ChromaVector). x.reply) (λ (x : ChromaVector). vector_area x.vector) _ _ _ _ a.vector.now
-    (c.chroma_vector-told.ensures ∙ ap (chroma_in a.mode) c.four_motion-motion.ensures) t.0 t.1
+    (c.chroma_vector-told.ensures ∙ ap (chroma_in a.mode) c.four_motion-motion.ensures) t.value t.vector_after

@@ -17,7 +17,7 @@ use Rattle.hencouch.proofs.copied.hencouch_copy_block.Goals as goal
 abbrev blockFor : Start → Point → List ℕ
 blockFor s at =
     let a = s.args in
-    copied_block (plane_of a.samples.now (geometry_of a.width a.height a.stride)) at a.block-w a.block-h
+    copied_block (plane_of a.samples.now (geometry_of a.width a.height a.stride)) at a.block_w a.block_h
 
 -- the numbers are read back as they were handed in
 point_is : (c : After-point_of-at) → let a = c.args in c.point_of-at.result ≡ point_of a.x a.y
@@ -27,4 +27,4 @@ point_is c =
 pub returns : goal.returns
 returns c =
     let e = c.copy_block-reply.ensures in
-    (c.code.ensures ∙ ap code_of e.0, e.1 ∙ λ i. done (e.0 i) (blockFor (goal.at.returns c).Start (point_is (goal.at.returns c).After-point_of-at i)) c.args.out.now)
+    (c.code.ensures ∙ ap code_of e.value, e.out_after ∙ λ i. done (e.value i) (blockFor (goal.at.returns c).Start (point_is (goal.at.returns c).After-point_of-at i)) c.args.out.now)

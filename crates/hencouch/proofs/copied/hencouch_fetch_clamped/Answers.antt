@@ -21,6 +21,6 @@ returns c =
     let reply = reference_reply geometry (length a.samples.now) in
     let there = sample_at (plane_of a.samples.now geometry) a.x a.y in
     let w = c.write_sample.ensures in (
-      w.0 ∙ ap fetched_code told ∙ code_of_lem reply there,
-      w.1 ∙ ap (λ (t : Fetched). fetched_in t a.sample.now) told ∙ left_by reply there a.sample.now,
+      w.value ∙ ap fetched_code told ∙ code_of_lem reply there,
+      w.sample_after ∙ ap (λ (t : Fetched). fetched_in t a.sample.now) told ∙ left_by reply there a.sample.now,
     )

@@ -13,4 +13,4 @@ returns c =
     let a = c.args in
     let e = c.chroma_block-reply.ensures in
     let block = source_chroma a.chroma.now (size_of a.width a.height) (macroblock_at a.column a.row) in
-    (c.code.ensures ∙ ap code_of e.0, e.1 ∙ ap (λ (r : Reply). done r block a.out.now) e.0)
+    (c.code.ensures ∙ ap code_of e.value, e.out_after ∙ ap (λ (r : Reply). done r block a.out.now) e.value)

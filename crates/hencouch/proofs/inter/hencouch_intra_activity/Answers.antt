@@ -11,6 +11,6 @@ returns c =
     let a = c.args in
     let e = c.intra_activity-told.ensures in
     let w = c.write_activity.ensures in (
-      w.0 ∙ ap (λ (t : Activity). code_of t.reply) e,
-      w.1 ∙ ap (λ (t : Activity). done t.reply t.sum a.activity.now) e,
+      w.value ∙ ap (λ (t : Activity). code_of t.reply) e,
+      w.activity_after ∙ ap (λ (t : Activity). done t.reply t.sum a.activity.now) e,
     )

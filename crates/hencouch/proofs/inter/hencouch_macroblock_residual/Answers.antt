@@ -16,9 +16,9 @@ abbrev residualFor : Start → List ℤ
 residualFor s =
     let a = s.args in
     let source = source_of a.y.now a.cb.now a.cr.now (size_of a.width a.height) (macroblock_at a.column a.row) in
-    residual_of source (samples a.pred-y.now a.pred-cb.now a.pred-cr.now)
+    residual_of source (samples a.pred_y.now a.pred_cb.now a.pred_cr.now)
 
 pub returns : goal.returns
 returns c =
     let e = c.macroblock_residual-reply.ensures in
-    (c.code.ensures ∙ ap code_of e.0, e.1.0 ∙ ap (λ (r : Reply). done r (residualFor (goal.at.returns c).Start) c.args.out.now) e.0)
+    (c.code.ensures ∙ ap code_of e.value, e.out_after ∙ ap (λ (r : Reply). done r (residualFor (goal.at.returns c).Start) c.args.out.now) e.value)

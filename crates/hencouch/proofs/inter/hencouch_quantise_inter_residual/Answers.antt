@@ -37,13 +37,13 @@ returns c =
     let e = c.quantise_inter_residual-told.ensures in
     let w = c.write_counts.ensures in
     let told = e.0 ∙ ap (told_for (goal.at.returns c).Start) is in
-    let first = is_set a.first-method in
+    let first = is_set a.first_method in
     let old = areas a.lasts.now a.runs.now a.levels.now in (
-      w.0 ∙ ap (λ (t : Counted). code_of t.reply) told,
+      w.value ∙ ap (λ (t : Counted). code_of t.reply) told,
       e.1
           ∙ ap (λ (b : Bool). done c.quantise_inter_residual-told.result.reply (areas_of (by (goal.at.returns c).Start b) a.residual.now) old) is
           ∙ ap (λ (t : Counted). done t.reply (areas_of (by (goal.at.returns c).Start first) a.residual.now) old) told,
-      w.1
+      w.counts_after
           ∙ ap (λ (t : Counted). done t.reply t.counts a.counts.now) told
           ∙ done_again (replyFor (goal.at.returns c).Start first) (λ (n : List ℕ). n) (counts_of (by (goal.at.returns c).Start first) a.residual.now) (replicate 6 0) a.counts.now,
     )

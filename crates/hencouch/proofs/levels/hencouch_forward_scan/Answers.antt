@@ -11,4 +11,4 @@ pub returns : goal.returns
 returns c =
     let a = c.args in
     let e = c.forward_scan-reply.ensures in
-    (c.code.ensures ∙ ap code_of e.0, e.1.0 ∙ ap (λ (r : Reply). done r (scanned (grid_of a.scan) a.levels.now) a.out.now) e.0)
+    (c.code.ensures ∙ ap code_of e.value, e.out_after ∙ ap (λ (r : Reply). done r (scanned (grid_of a.scan) a.levels.now) a.out.now) e.value)

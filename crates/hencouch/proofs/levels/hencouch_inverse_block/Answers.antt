@@ -12,4 +12,4 @@ returns c =
     let a = c.args in
     let e = c.inverse_block-reply.ensures in
     let block = block_inverse (second_inverse a.quantiser) a.levels.now in
-    (c.code.ensures ∙ ap code_of e.0, e.1 ∙ ap (λ (r : Reply). done r block a.out.now) e.0)
+    (c.code.ensures ∙ ap code_of e.value, e.out_after ∙ ap (λ (r : Reply). done r block a.out.now) e.value)

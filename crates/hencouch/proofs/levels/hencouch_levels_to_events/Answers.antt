@@ -15,29 +15,29 @@ use Rattle.hencouch.proofs.levels.hencouch_levels_to_events.Goals as goal
 
 -- the reply, and what it leaves in the three areas
 abbrev replyFor : Start → Reply
-replyFor s = let a = s.args in events_reply a.levels.now (length a.lasts.now) (length a.runs.now) (length a.out-levels.now)
+replyFor s = let a = s.args in events_reply a.levels.now (length a.lasts.now) (length a.runs.now) (length a.out_levels.now)
 
 reply_is : (d : After-levels_to_events-told) → d.levels_to_events-told.result.reply ≡ replyFor (goal.at.After-levels_to_events-told d).Start
 reply_is d = ap (λ (e : Events). e.reply) d.levels_to_events-told.ensures.value
 
-areas : (d : After-levels_to_events-told) → (d.levels_to_events-told.new.1.0 ≡ done (replyFor (goal.at.After-levels_to_events-told d).Start) (lasts_area d.args.levels.now) d.args.lasts.now)
-    × (d.levels_to_events-told.new.1.1.0 ≡ done (replyFor (goal.at.After-levels_to_events-told d).Start) (runs_area d.args.levels.now) d.args.runs.now)
-    × (d.levels_to_events-told.new.1.1.1.0 ≡ done (replyFor (goal.at.After-levels_to_events-told d).Start) (levels_area d.args.levels.now) d.args.out_levels.now)
+areas : (d : After-levels_to_events-told) → (d.levels_to_events-told.new.lasts ≡ done (replyFor (goal.at.After-levels_to_events-told d).Start) (lasts_area d.args.levels.now) d.args.lasts.now)
+    × (d.levels_to_events-told.new.runs ≡ done (replyFor (goal.at.After-levels_to_events-told d).Start) (runs_area d.args.levels.now) d.args.runs.now)
+    × (d.levels_to_events-told.new.out_levels ≡ done (replyFor (goal.at.After-levels_to_events-told d).Start) (levels_area d.args.levels.now) d.args.out_levels.now)
 areas d =
     let e = d.levels_to_events-told.ensures in (
-      e.1.0 ∙ ap (λ (r : Reply). done r (lasts_area d.args.levels.now) d.args.lasts.now) (reply_is d),
-      e.1.1.0 ∙ ap (λ (r : Reply). done r (runs_area d.args.levels.now) d.args.runs.now) (reply_is d),
-      e.1.1.1.0 ∙ ap (λ (r : Reply). done r (levels_area d.args.levels.now) d.args.out_levels.now) (reply_is d),
+      e.lasts_after ∙ ap (λ (r : Reply). done r (lasts_area d.args.levels.now) d.args.lasts.now) (reply_is d),
+      e.runs_after ∙ ap (λ (r : Reply). done r (runs_area d.args.levels.now) d.args.runs.now) (reply_is d),
+      e.out_levels_after ∙ ap (λ (r : Reply). done r (levels_area d.args.levels.now) d.args.out_levels.now) (reply_is d),
     )
 
 pub returns : goal.returns
 returns c =
     let w = c.write_count.ensures in (
-      w.0 ∙ ap code_of (reply_is (goal.at.returns c).After-levels_to_events-told),
+      w.value ∙ ap code_of (reply_is (goal.at.returns c).After-levels_to_events-told),
       (areas (goal.at.returns c).After-levels_to_events-told).0,
       (areas (goal.at.returns c).After-levels_to_events-told).1,
       (areas (goal.at.returns c).After-levels_to_events-told).2,
-      w.1
+      w.count_after
           ∙ ap (λ (t : Events). done t.reply t.count c.args.count.now) c.levels_to_events-told.ensures.value
           ∙ done_again (replyFor (goal.at.returns c).Start) (λ (n : ℕ). n) (length (events_of c.args.levels.now)) 0 c.args.count.now,
     )

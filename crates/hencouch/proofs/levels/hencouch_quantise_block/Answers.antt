@@ -24,5 +24,5 @@ pub returns : goal.returns
 returns c =
     let is = c.is_set-first.ensures in
     let e = c.quantise_block-reply.ensures in
-    let r = e.0 ∙ ap (replyFor (goal.at.returns c).Start) is in
-    (c.code.ensures ∙ ap code_of r, e.1.0 ∙ λ i. done (r i) (blockFor (goal.at.returns c).Start (is i)) c.args.out.now)
+    let r = e.value ∙ ap (replyFor (goal.at.returns c).Start) is in
+    (c.code.ensures ∙ ap code_of r, e.out_after ∙ λ i. done (r i) (blockFor (goal.at.returns c).Start (is i)) c.args.out.now)

@@ -35,12 +35,12 @@ module _ (s : Start) where
   abbrev answer_for : MotionVector → EstimatedFour
   answer_for seed =
       let a = s.args in
-      let geometry = geometry_of a.ref-width a.ref-height a.stride in
+      let geometry = geometry_of a.ref_width a.ref_height a.stride in
       let at = macroblock_at a.column a.row in
       estimate_four (search_request a.source.now (size_of a.width a.height) at a.reference.now geometry a.mode a.bpp a.fcode) seed
 
 -- the seed's numbers are read back as they were handed in
-seed_is : (c : After-vector_of-seed) → let a = c.args in c.vector_of-seed.result ≡ vector_of a.seed-x a.seed-y
+seed_is : (c : After-vector_of-seed) → let a = c.args in c.vector_of-seed.result ≡ vector_of a.seed_x a.seed_y
 seed_is c =
     c.vector_of-seed.ensures ∙ ap₂ vector_of (to_z-of_z w32 c.args.seed_x c.ranges.seed_x) (to_z-of_z w32 c.args.seed_y c.ranges.seed_y)
 

@@ -25,29 +25,29 @@ module _ (s : Start) where
   replyFor v o =
       let a = s.args in
       let geometry = geometry_of a.width a.height a.stride in
-      luma_block_reply a.mode a.bits-per-pixel geometry (length a.samples.now) v o a.rounding (length a.out.now)
+      luma_block_reply a.mode a.bits_per_pixel geometry (length a.samples.now) v o a.rounding (length a.out.now)
 
   abbrev blockFor : MotionVector → Site → List ℕ
   blockFor v o =
       let a = s.args in
       let geometry = geometry_of a.width a.height a.stride in
-      predicted_block (mode_of a.mode a.bits-per-pixel) (plane_of a.samples.now geometry) o a.rounding v
+      predicted_block (mode_of a.mode a.bits_per_pixel) (plane_of a.samples.now geometry) o a.rounding v
 
 -- the numbers are read back as they were handed in
-vector_is : (c : After-vector_of-vector) → let a = c.args in c.vector_of-vector.result ≡ vector_of a.mv-x a.mv-y
+vector_is : (c : After-vector_of-vector) → let a = c.args in c.vector_of-vector.result ≡ vector_of a.mv_x a.mv_y
 vector_is c =
     c.vector_of-vector.ensures ∙ ap₂ vector_of (to_z-of_z w32 c.args.mv_x c.ranges.mv_x) (to_z-of_z w32 c.args.mv_y c.ranges.mv_y)
 
 site_is : (c : After-site_of-site) → let a = c.args in
-    c.site_of-site.result ≡ block_at a.origin-x a.origin-y a.block-w a.block-h
+    c.site_of-site.result ≡ block_at a.origin_x a.origin_y a.block_w a.block_h
 site_is c =
     let a = c.args in
     c.site_of-site.ensures
-    ∙ λ i. block_at (to_z-of_z w32 a.origin-x c.ranges.origin_x i) (to_z-of_z w32 a.origin-y c.ranges.origin_y i) a.block-w a.block-h
+    ∙ λ i. block_at (to_z-of_z w32 a.origin_x c.ranges.origin_x i) (to_z-of_z w32 a.origin_y c.ranges.origin_y i) a.block_w a.block_h
 
 pub returns : goal.returns
 returns c =
     let v = vector_is (goal.at.returns c).After-vector_of-vector in
     let e = c.predict_luma_block-reply.ensures in
-    let r = e.0 ∙ ap₂ (replyFor (goal.at.returns c).Start) v (site_is (goal.at.returns c).After-site_of-site) in
-    (c.code.ensures ∙ ap code_of r, e.1 ∙ λ i. done (r i) (blockFor (goal.at.returns c).Start (v i) (site_is (goal.at.returns c).After-site_of-site i)) c.args.out.now)
+    let r = e.value ∙ ap₂ (replyFor (goal.at.returns c).Start) v (site_is (goal.at.returns c).After-site_of-site) in
+    (c.code.ensures ∙ ap code_of r, e.out_after ∙ λ i. done (r i) (blockFor (goal.at.returns c).Start (v i) (site_is (goal.at.returns c).After-site_of-site i)) c.args.out.now)

@@ -30,16 +30,16 @@ module _ (s : Start) where
   replyFor m o =
       let a = s.args in
       let geometry = geometry_of a.width a.height a.stride in
-      luma_macroblock_reply a.mode a.bits-per-pixel geometry (length a.samples.now) m o a.rounding (length a.out.now)
+      luma_macroblock_reply a.mode a.bits_per_pixel geometry (length a.samples.now) m o a.rounding (length a.out.now)
 
   abbrev lumaFor : PvopMbMotion → Point → List ℕ
   lumaFor m o =
       let a = s.args in
       let geometry = geometry_of a.width a.height a.stride in
-      macroblock_luma (mode_of a.mode a.bits-per-pixel) (plane_of a.samples.now geometry) m o a.rounding
+      macroblock_luma (mode_of a.mode a.bits_per_pixel) (plane_of a.samples.now geometry) m o a.rounding
 
 -- the numbers are read back as they were handed in
-corner-is : (c : After-point_of-corner) → let a = c.args in c.point_of-corner.result ≡ point_of a.origin-x a.origin-y
+corner-is : (c : After-point_of-corner) → let a = c.args in c.point_of-corner.result ≡ point_of a.origin_x a.origin_y
 corner-is c =
     c.point_of-corner.ensures ∙ ap₂ point_of (to_z-of_z w32 c.args.origin_x c.ranges.origin_x) (to_z-of_z w32 c.args.origin_y c.ranges.origin_y)
 
@@ -47,5 +47,5 @@ pub returns : goal.returns
 returns c =
     let m = c.four_motion-motion.ensures in
     let e = c.predict_luma_macroblock-reply.ensures in
-    let r = e.0 ∙ ap₂ (replyFor (goal.at.returns c).Start) m (corner-is (goal.at.returns c).After-point_of-corner) in
-    (c.code.ensures ∙ ap code_of r, e.1 ∙ λ i. done (r i) (lumaFor (goal.at.returns c).Start (m i) (corner-is (goal.at.returns c).After-point_of-corner i)) c.args.out.now)
+    let r = e.value ∙ ap₂ (replyFor (goal.at.returns c).Start) m (corner-is (goal.at.returns c).After-point_of-corner) in
+    (c.code.ensures ∙ ap code_of r, e.out_after ∙ λ i. done (r i) (lumaFor (goal.at.returns c).Start (m i) (corner-is (goal.at.returns c).After-point_of-corner i)) c.args.out.now)

@@ -11,4 +11,4 @@ pub returns : goal.returns
 returns c =
     let t = c.write_totals.ensures in
     numbered (λ (x : Closed). x.reply) (λ (x : Closed). totals_numbers x.totals) _ _ _ _ c.args.totals.now
-    (c.close-closed.ensures ∙ ap close_of c.run_of-before.ensures) t.0 t.1
+    (c.close-closed.ensures ∙ ap close_of c.run_of-before.ensures) t.value t.totals_after

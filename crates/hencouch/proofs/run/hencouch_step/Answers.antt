@@ -17,14 +17,14 @@ module _ (s : Start) where
   abbrev stepped_by : Settings → Run → StepAnswer
   stepped_by settings run =
       let a = s.args in
-      let geometry = geometry_of a.ref-width a.ref-height a.stride in
+      let geometry = geometry_of a.ref_width a.ref_height a.stride in
       step_of run
       (request settings a.reference.now geometry a.y.now a.cb.now a.cr.now (size_of a.width a.height) (next_place run)
-      a.weights.now a.pred-y.now a.pred-cb.now a.pred-cr.now
+      a.weights.now a.pred_y.now a.pred_cb.now a.pred_cr.now
       a.lasts.now a.runs.now a.levels.now)
 
   abbrev stepped_from : Run → StepAnswer
-  stepped_from = let a = s.args in stepped_by (macroblock_settings a.fcode a.mode a.bpp a.quantiser a.first-method a.vectors a.scan)
+  stepped_from = let a = s.args in stepped_by (macroblock_settings a.fcode a.mode a.bpp a.quantiser a.first_method a.vectors a.scan)
 
   -- the record's areas, as they are when the call begins
   abbrev lent : RecordAreas

@@ -18,15 +18,15 @@ module _ (s : Start) where
   stepped_by run settings geometry =
       let a = s.args in
       predicted_step_of run
-      (predicted_request settings a.rounding a.ref-y.now a.ref-cb.now a.ref-cr.now geometry
+      (predicted_request settings a.rounding a.ref_y.now a.ref_cb.now a.ref_cr.now geometry
       a.y.now a.cb.now a.cr.now (size_of a.width a.height) (next_place run)
       a.weights.now a.lasts.now a.runs.now a.levels.now)
 
   abbrev stepped_from : Run → StepAnswer
   stepped_from run =
       let a = s.args in
-      stepped_by run (macroblock_settings a.fcode a.mode a.bpp a.quantiser a.first-method a.vectors a.scan)
-      (reference_geometry a.ref-width a.ref-height a.stride a.chroma-stride)
+      stepped_by run (macroblock_settings a.fcode a.mode a.bpp a.quantiser a.first_method a.vectors a.scan)
+      (reference_geometry a.ref_width a.ref_height a.stride a.chroma_stride)
 
   -- the record's areas, as they are when the call begins
   abbrev lent : RecordAreas

@@ -10,7 +10,8 @@ use Rattle.hencouch.proofs.sample.hencouch_split_quarter_pel.Goals as goal
 
 pub returns : goal.returns
 returns c =
-    let e = c.split_quarter_pel-split.ensures ∙ ap split_quarter (to_z-of_z w32 c.args.mv c.ranges.mv) in (
-      refl,
-      (of_bits_lem _ c.struct_told-1.given.0.1 ∙ ap (λ (q : QuarterPel). q.whole) e, ap (λ (q : QuarterPel). q.fraction) e),
-    )
+    let e = c.split_quarter_pel-split.ensures ∙ ap split_quarter (to_z-of_z w32 c.args.mv c.ranges.mv) in record {
+      value = refl;
+      whole_after = of_bits_lem _ c.struct_told-1.given.0.1 ∙ ap (λ (q : QuarterPel). q.whole) e;
+      fraction_after = ap (λ (q : QuarterPel). q.fraction) e;
+    }

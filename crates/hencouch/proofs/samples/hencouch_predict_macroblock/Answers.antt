@@ -21,7 +21,7 @@ use Rattle.hencouch.proofs.samples.hencouch_predict_macroblock.Goals as goal
 module _ (s : Start) where
   -- the reference's planes, and the lent areas as they are when the call begins
   abbrev referred : Samples
-  referred = let a = s.args in samples a.ref-y.now a.ref-cb.now a.ref-cr.now
+  referred = let a = s.args in samples a.ref_y.now a.ref_cb.now a.ref_cr.now
 
   abbrev lent : Samples
   lent = let a = s.args in samples a.y.now a.cb.now a.cr.now
@@ -30,16 +30,16 @@ module _ (s : Start) where
   abbrev replyFor : ReferenceGeometry → PvopMbMotion → Reply
   replyFor g m =
       let a = s.args in
-      macroblock_samples_reply a.mode a.bits-per-pixel g (lengths_in referred) m (macroblock_at a.column a.row) a.rounding (lengths_in lent)
+      macroblock_samples_reply a.mode a.bits_per_pixel g (lengths_in referred) m (macroblock_at a.column a.row) a.rounding (lengths_in lent)
 
   abbrev made_for : ReferenceGeometry → PvopMbMotion → Samples
   made_for g m =
       let a = s.args in
-      macroblock_prediction (mode_of a.mode a.bits-per-pixel) (planes_of referred g) m (macroblock_at a.column a.row) a.rounding
+      macroblock_prediction (mode_of a.mode a.bits_per_pixel) (planes_of referred g) m (macroblock_at a.column a.row) a.rounding
 
 -- the numbers are read back as they were handed in
 vector_is : (c : After-vector_of) → let a = c.args in
-    c.vector_of.result ≡ vector_of a.mv-x a.mv-y
+    c.vector_of.result ≡ vector_of a.mv_x a.mv_y
 vector_is c =
     c.vector_of.ensures ∙ ap₂ vector_of (to_z-of_z w32 c.args.mv_x c.ranges.mv_x) (to_z-of_z w32 c.args.mv_y c.ranges.mv_y)
 

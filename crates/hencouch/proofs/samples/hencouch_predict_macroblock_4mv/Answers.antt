@@ -18,7 +18,7 @@ use Rattle.hencouch.proofs.samples.hencouch_predict_macroblock_4mv.Goals as goal
 module _ (s : Start) where
   -- the reference's planes, and the lent areas as they are when the call begins
   abbrev referred : Samples
-  referred = let a = s.args in samples a.ref-y.now a.ref-cb.now a.ref-cr.now
+  referred = let a = s.args in samples a.ref_y.now a.ref_cb.now a.ref_cr.now
 
   abbrev lent : Samples
   lent = let a = s.args in samples a.y.now a.cb.now a.cr.now
@@ -27,12 +27,12 @@ module _ (s : Start) where
   abbrev replyFor : ReferenceGeometry → PvopMbMotion → Reply
   replyFor g m =
       let a = s.args in
-      macroblock_samples_reply a.mode a.bits-per-pixel g (lengths_in referred) m (macroblock_at a.column a.row) a.rounding (lengths_in lent)
+      macroblock_samples_reply a.mode a.bits_per_pixel g (lengths_in referred) m (macroblock_at a.column a.row) a.rounding (lengths_in lent)
 
   abbrev made_for : ReferenceGeometry → PvopMbMotion → Samples
   made_for g m =
       let a = s.args in
-      macroblock_prediction (mode_of a.mode a.bits-per-pixel) (planes_of referred g) m (macroblock_at a.column a.row) a.rounding
+      macroblock_prediction (mode_of a.mode a.bits_per_pixel) (planes_of referred g) m (macroblock_at a.column a.row) a.rounding
 
 pub returns : goal.returns
 returns c =

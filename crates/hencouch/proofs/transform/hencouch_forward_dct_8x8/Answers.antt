@@ -11,4 +11,4 @@ pub returns : goal.returns
 returns c =
     let a = c.args in
     let e = c.forward_dct_8x8-reply.ensures in
-    (c.code.ensures ∙ ap code_of e.0, e.1 ∙ ap (λ (z : Reply). done z (coefficients a.residual.now) a.out.now) e.0)
+    (c.code.ensures ∙ ap code_of e.value, e.out_after ∙ ap (λ (z : Reply). done z (coefficients a.residual.now) a.out.now) e.value)

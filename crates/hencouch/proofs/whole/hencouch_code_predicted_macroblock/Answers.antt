@@ -16,7 +16,7 @@ module _ (s : Start) where
   abbrev asked_by : Settings → ReferenceGeometry → PredictedRequest
   asked_by settings geometry =
       let a = s.args in
-      predicted_request settings a.rounding a.ref-y.now a.ref-cb.now a.ref-cr.now geometry
+      predicted_request settings a.rounding a.ref_y.now a.ref_cb.now a.ref_cr.now geometry
       a.y.now a.cb.now a.cr.now (size_of a.width a.height) (macroblock_at a.column a.row)
       a.weights.now a.lasts.now a.runs.now a.levels.now
 
@@ -26,8 +26,8 @@ module _ (s : Start) where
   abbrev asked : PredictedRequest
   asked =
       let a = s.args in
-      asked_by (macroblock_settings a.fcode a.mode a.bpp a.quantiser a.first-method a.vectors a.scan)
-      (reference_geometry a.ref-width a.ref-height a.stride a.chroma-stride)
+      asked_by (macroblock_settings a.fcode a.mode a.bpp a.quantiser a.first_method a.vectors a.scan)
+      (reference_geometry a.ref_width a.ref_height a.stride a.chroma_stride)
 
   -- the record's areas, as they are when the call begins
   abbrev lent : RecordAreas

@@ -30,7 +30,7 @@ abbrev start_at : After-macroblock_residual → Start
 start_at c = (goal.at.After-macroblock_residual c).Start
 
 abbrev local : After-macroblock_residual → List ℤ
-local c = c.macroblock_residual.new.1.1.1.1.1.1.1.1.0
+local c = c.macroblock_residual.new.out
 
 residual-done : (c : After-macroblock_residual) → c.macroblock_residual.result ≡ Done
 residual-done c =
@@ -40,7 +40,7 @@ residual-done c =
     (search whole.luma) (search (whole.blue, whole.red)) (search (whole.blue, whole.red)) refl
 
 residual_is : (c : After-macroblock_residual) → local c ≡ residual_of (source_at (goal.at.After-macroblock_residual c).Start) (lent_at (goal.at.After-macroblock_residual c).Start)
-residual_is c = left _ _ _ _ _ (residual-done c) refl c.macroblock_residual.ensures.out_after.0
+residual_is c = left _ _ _ _ _ (residual-done c) refl c.macroblock_residual.ensures.out_after
 
 -- its events
 abbrev residual_at : After-quantise_inter_residual-counted → After-macroblock_residual
@@ -51,7 +51,7 @@ counted_is c =
     let p = c.requires in
     coding_taken _ _ _ _ _ _ c.quantise_inter_residual-counted.ensures.0 p.quantisable
     (ap length (residual_is (goal.at.After-quantise_inter_residual-counted c).After-macroblock_residual) ∙ residual-length (source_at (goal.at.After-quantise_inter_residual-counted c).Start) (lent_at (goal.at.After-quantise_inter_residual-counted c).Start))
-    (c.macroblock_residual.ensures.out_after.1 (residual-done (goal.at.After-quantise_inter_residual-counted c).After-macroblock_residual))
+    (c.macroblock_residual.ensures.residual_range (residual-done (goal.at.After-quantise_inter_residual-counted c).After-macroblock_residual))
     (search (p.lasts_long, p.runs_long)) (search (p.lasts_long, p.runs_long)) (search p.levels_long)
 
 pub returns : goal.returns

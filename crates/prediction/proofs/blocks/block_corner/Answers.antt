@@ -28,9 +28,9 @@ returns c =
     let o = c.args.corner in
     let k = c.args.k in
     let x =
-    to_z-of_z (sfits_of {w = w32} c.moved-x.type-inv) ∙ c.moved-x.ensures
+    to_z-of_z (sfits_of {w = w32} c.moved-x.type_inv) ∙ c.moved-x.ensures
     ∙ ap (λ (z : ℤ). z +ℤ pos (8 * (k % 2))) (of_bits_lem o.x c.struct_told-1.given.0.1) in
     let y =
-    to_z-of_z (sfits_of {w = w32} c.moved-y.type-inv) ∙ c.moved-y.ensures
+    to_z-of_z (sfits_of {w = w32} c.moved-y.type_inv) ∙ c.moved-y.ensures
     ∙ ap (λ (z : ℤ). z +ℤ pos (8 * (k / 2))) (of_bits_lem o.y c.struct_told-2-1.given.1.0.1) in
     λ i. record { x = x i; y = y i }

@@ -29,7 +29,7 @@ l_is c = c.magnitude-l.ensures ∙ ap nat_abs (level-is (goal.at.After-magnitude
 
 -- what the level stands for, in size
 size_is : (c : After-inverse_size-size) → let a = c.args in
-    c.inverse_size-size.result ≡ inverse_size a.quantiser-scale (nat_abs a.level)
+    c.inverse_size-size.result ≡ inverse_size a.quantiser_scale (nat_abs a.level)
 size_is c = c.inverse_size-size.ensures ∙ ap (inverse_size c.args.quantiser_scale) (l_is (goal.at.After-inverse_size-size c).After-magnitude-l)
 
 size_most : (c : After-inverse_size-size) → c.inverse_size-size.result ≤ 126945
@@ -55,10 +55,10 @@ overflow_sub-size c = minus_fits c.inverse_size-size.result (size_most (goal.at.
 pub returns-then-level-lt0 : goal.returns-then-level-lt0
 unfolding inverse_by_quantiser
 returns-then-level-lt0 c =
-    of_bits_lem _ c.clamp.type-inv
+    of_bits_lem _ c.clamp.type_inv
     ∙ c.clamp.ensures
     ∙ ap (cut_to (negsuc 2047) (pos 2047))
-    (to_z-of_z w32 _ (sub-clamp (goal.at.returns-then-level-lt0 c).Then-level-lt0)
+    (to_z-of_z w32 _ (overflow_sub-size (goal.at.returns-then-level-lt0 c).Then-level-lt0)
     ∙ minus_read c.inverse_size-size.result (size_most (goal.at.returns-then-level-lt0 c).After-inverse_size-size)
     ∙ minus_signed c.args.level _ (sym (ap (λ (v : ℤ). lt_z v (pos 0)) (level-is (goal.at.returns-then-level-lt0 c).Start)) ∙ c.if-level-lt0.true)
     ∙ ap (signed c.args.level) (size_is (goal.at.returns-then-level-lt0 c).After-inverse_size-size))
@@ -67,7 +67,7 @@ returns-then-level-lt0 c =
 pub returns-else-level-lt0 : goal.returns-else-level-lt0
 unfolding inverse_by_quantiser
 returns-else-level-lt0 c =
-    of_bits_lem _ c.clamp-else-level-lt0.type-inv
+    of_bits_lem _ c.clamp-else-level-lt0.type_inv
     ∙ c.clamp-else-level-lt0.ensures
     ∙ ap (cut_to (negsuc 2047) (pos 2047))
     (to_z_pos w32 c.inverse_size-size.result (omega (arith, size_most (goal.at.returns-else-level-lt0 c).After-inverse_size-size))

@@ -32,7 +32,7 @@ sixteen-is s = ap (λ (z : ℤ). to_z w32 (of_z w32 z)) (sixteen s) ∙ to_z-of_
 
 -- what is left of it
 rest : (c : After-toward_zero-rest) → let a = c.args in
-    c.toward_zero-rest.result ≡ signed a.f (16 * nat_abs a.f - a.w * a.quantiser-scale)
+    c.toward_zero-rest.result ≡ signed a.f (16 * nat_abs a.f - a.w * a.quantiser_scale)
 rest c =
     let d = c.args.w * c.args.quantiser_scale in
     c.toward_zero-rest.ensures
@@ -67,7 +67,7 @@ pub returns : goal.returns
 unfolding level_by_weight
 returns c =
     let d = c.args.w * c.args.quantiser_scale in
-    of_bits_lem _ c.clamp.type-inv
+    of_bits_lem _ c.clamp.type_inv
     ∙ c.clamp.ensures
     ∙ ap (cut_to (negsuc 2046) (pos 2047))
     (quot_value c.args.f c.toward_zero-rest.result (16 * nat_abs c.args.f - d) (2 * d) (rest (goal.at.returns c).After-toward_zero-rest) (omega (arith, c.requires.small)) (omega (arith, d-most (goal.at.returns c).Start)))

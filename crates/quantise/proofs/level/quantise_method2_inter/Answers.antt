@@ -20,7 +20,7 @@ f-is : (s : Start) → to_z w32 (of_z w32 s.args.f) ≡ s.args.f
 f-is s = to_z-of_z w32 s.args.f s.ranges.f
 
 -- what is left of the coefficient's size
-rest-is : (c : After-less-rest) → let a = c.args in c.less-rest.result ≡ nat_abs a.f - a.quantiser-scale / 2
+rest-is : (c : After-less-rest) → let a = c.args in c.less-rest.result ≡ nat_abs a.f - a.quantiser_scale / 2
 rest-is c =
     c.less-rest.ensures ∙ ap (λ (n : ℕ). n - c.args.quantiser_scale / 2) (c.magnitude.ensures ∙ ap nat_abs (f-is (goal.at.After-less-rest c).Start))
 
@@ -35,7 +35,7 @@ product_most c =
 abbrev size_of : After-less-rest → ℕ
 size_of c = c.less-rest.result / 2 * c.args.by / 32768
 
-size_is : (c : After-less-rest) → let a = c.args in size_of c ≡ quotient_by_quantiser a.quantiser-scale a.f
+size_is : (c : After-less-rest) → let a = c.args in size_of c ≡ quotient_by_quantiser a.quantiser_scale a.f
 size_is c =
     halved_quotient c.less-rest.result c.args.quantiser_scale c.args.by (rest_most c) c.requires.quantiser_some c.requires.quantiser_most c.requires.by_is
     ∙ ap (λ (n : ℕ). n / (2 * c.args.quantiser_scale)) (rest-is c)
@@ -60,7 +60,7 @@ overflow_sub-result c = minus_fits (size_of (goal.at.overflow_sub-result c).Afte
 
 pub returns-then-f-lt0 : goal.returns-then-f-lt0
 returns-then-f-lt0 c =
-    to_z-of_z w32 _ (sub-result (goal.at.returns-then-f-lt0 c).Then-f-lt0)
+    to_z-of_z w32 _ (overflow_sub-result (goal.at.returns-then-f-lt0 c).Then-f-lt0)
     ∙ minus_read (size_of (goal.at.returns-then-f-lt0 c).After-less-rest) (omega (arith, size_most (goal.at.returns-then-f-lt0 c).After-less-rest))
     ∙ minus_signed c.args.f _ (sym (ap (λ (v : ℤ). lt_z v (pos 0)) (f-is (goal.at.returns-then-f-lt0 c).Start)) ∙ c.if-f-lt0.true)
     ∙ level-is c.args.quantiser_scale c.args.f _ (size_is (goal.at.returns-then-f-lt0 c).After-less-rest) (size_most (goal.at.returns-then-f-lt0 c).After-less-rest)

@@ -19,7 +19,7 @@ off : (c : After-clamp) → let a = c.args in to_z w32 (of_z w32 c.clamp.result)
 off c =
     let small : c.args.d < 2 ^ 31 = omega (arith, c.requires.1) in
     let x-is = to_z-of_z w32 c.args.x c.ranges.x in
-    of_bits_lem _ c.clamp.type-inv
+    of_bits_lem _ c.clamp.type_inv
     ∙ c.clamp.ensures
     ∙ (λ i. cut_to (negative_read c.args.d small i) (to_z_pos w32 c.args.d small i) (x-is i))
 
@@ -36,4 +36,4 @@ overflow_sub-result c =
     subst (SFits w32) (sym (left_is (goal.at.overflow_sub-result c).After-clamp)) (signed_fits c.args.x (nat_abs c.args.x - c.args.d) (omega (arith, c.requires.0)))
 
 pub returns : goal.returns
-returns c = to_z-of_z w32 _ (sub-result (goal.at.returns c).After-clamp) ∙ left_is (goal.at.returns c).After-clamp
+returns c = to_z-of_z w32 _ (overflow_sub-result (goal.at.returns c).After-clamp) ∙ left_is (goal.at.returns c).After-clamp

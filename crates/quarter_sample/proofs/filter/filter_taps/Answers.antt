@@ -44,6 +44,6 @@ returns-in-2 c =
 pub returns-in_default : goal.returns-in_default
 returns-in_default c =
     let a = c.args in
-    let e : a.fraction ≡ 3 = omega (arith, c.requires.fraction_nonzero, c.in_default.rest) in
+    let e : a.fraction ≡ 3 = omega (arith, c.requires.fraction_nonzero, c.in_default.in_default-own.rest) in
     at_three_quarters a.rc a.max (length a.out.now) a.t0.now a.t1.now a.t2.now a.t3.now a.t4.now a.t5.now a.t6.now
     a.t7.now e c.near_taps-in_default.ensures

@@ -18,7 +18,7 @@ turn c = (goal.at.After-fir c).At-loop-i
 pub loop-i-preserved : goal.loop-i-preserved
 loop-i-preserved c =
     let l = c.loop-i in
-    (omega arith, omega arith, simp length-set (omega arith), filled_set _ _ _ _ _ l.inv.3 c.fir.ensures (omega arith))
+    (omega arith, omega arith, simp length-set (omega arith), filled_set _ _ _ _ _ l.invariant.3 c.fir.ensures (omega arith))
 
 pub returns : goal.returns
 returns c = filled_end _ _ _ _ c.loop-i.invariant.3 (omega arith)

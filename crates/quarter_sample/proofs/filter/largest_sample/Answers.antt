@@ -28,7 +28,7 @@ returns-in-7 c = rw c.in-7.is
 
 pub returns-in_default : goal.returns-in_default
 returns-in_default c =
-    let r7 = c.in_default.rest in
+    let r7 = c.in_default.in_default-own.rest in
     let r6 = r7.0 in
     let r5 = r6.0 in
     let r4 = r5.0 in

@@ -26,7 +26,7 @@ loop-i-preserved c =
       omega arith,
       omega arith,
       simp length-set (omega arith),
-      filled_set _ _ _ _ _ l.inv.3
+      filled_set _ _ _ _ _ l.invariant.3
           (c.average.ensures ∙ ap (average a.rc a.max (get_or a.near.now l.i 0)) c.fir-half.ensures)
           (omega arith),
     )

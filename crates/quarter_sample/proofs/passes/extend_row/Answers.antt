@@ -23,9 +23,9 @@ pub returns : goal.returns
 returns c =
     let row = c.args.row.now in
     let line = c.args.line.now in
-    let x = c.reflect.new.1.1.0 in
-    let y = c.copy_straight.new.1.0 in
-    let z = c.reflect-2.new.1.1.0 in
+    let x = c.reflect.new.out in
+    let y = c.copy_straight.new.out in
+    let z = c.reflect-2.new.out in
     let l = take 3 (x ++ drop 3 line) ++ (y ++ drop (3 + length row - 3) (drop 3 (x ++ drop 3 line))) in
     let pre = c.requires in
     let three = length-take-le 3 line (omega arith) in

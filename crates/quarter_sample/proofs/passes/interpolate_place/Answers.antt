@@ -170,5 +170,5 @@ returns-in-14 c =
 
 pub returns-in_default : goal.returns-in_default
 returns-in_default c =
-    let e = last_place c.args.fractions c.requires.1 c.in_default.rest in
+    let e = last_place c.args.fractions c.requires.1 c.in_default.in_default-own.rest in
     rule (goal.at.returns-in_default c).Start 3 3 (lit< tt) (lit< tt) e c.both_passes-in_default.ensures

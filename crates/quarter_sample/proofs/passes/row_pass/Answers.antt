@@ -57,7 +57,7 @@ filter_rows-requires c =
 
 -- the long row as it comes back, and what stands behind it
 abbrev wide : After-filter_rows → List ℕ
-wide c = c.filter_rows.new.1.1.1.1.1.1.0
+wide c = c.filter_rows.new.wide
 
 abbrev rest : Start → List ℕ
 rest s = drop (count s) (replicate 400 0)

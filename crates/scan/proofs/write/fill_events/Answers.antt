@@ -23,7 +23,11 @@ clear_levels-requires c = c.requires.values_long
 
 pub write_events-count-requires : goal.write_events-count-requires
 write_events-count-requires c =
-    (c.requires.levels_long, (c.clear_bytes-2.ensures, c.clear_levels.ensures))
+    record {
+      levels_len = c.requires.levels_long;
+      runs_value = c.clear_bytes-2.ensures;
+      out_levels_value = c.clear_levels.ensures;
+    }
 
 pub mark_last-requires : goal.mark_last-requires
 mark_last-requires c =
@@ -39,4 +43,4 @@ pub returns : goal.returns
 unfolding lasts_area
 returns c =
     let w = c.write_events-count.ensures in
-    (w.0, (c.mark_last.ensures ∙ ap (λ (k : ℕ). area 0 (marks k)) w.0, w.1))
+    (w.value, (c.mark_last.ensures ∙ ap (λ (k : ℕ). area 0 (marks k)) w.value, w.1))

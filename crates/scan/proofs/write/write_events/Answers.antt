@@ -19,7 +19,7 @@ runs_long l = sym (length-set l.loop-i.runs l.loop-i.count 0) ∙ runs_length l.
 
 pub loop-i-init : goal.loop-i-init
 loop-i-init c =
-    started c.args.levels.now (ap (λ (l : List ℕ). set l 0 0) c.requires.runs_value.0) c.requires.runs_value.1
+    started c.args.levels.now (ap (λ (l : List ℕ). set l 0 0) c.requires.runs_value) c.requires.out_levels_value
 
 pub bounds-runs-count : goal.bounds-runs-count
 bounds-runs-count c = omega (arith, runs_long (goal.at.bounds-runs-count c).At-loop-i, run_room c.loop-i.invariant)
@@ -44,8 +44,8 @@ loop-i-preserved c =
     let more = c.one_unless_zero-count.ensures.0 ∙ ap (λ (z : ℤ). cond (is_zero z) 0 1) read in
     let run = c.run_after-run.ensures ∙ ap (λ (z : ℤ). cond (is_zero z) (at.run + 1) 0) read in
     let left : ℕ → ℕ → ℤ → Type 0 = λ n r v.
-    WrittenSoFar c.args.levels.now (set (set at.runs at.count at.run) (at.count + n) 0) (set at.out-levels at.count v) (at.count + n) r (at.i + 1) in
-    let told = turn c.args.levels.now at.runs at.out-levels at.count at.run at.i c.requires.levels_len c.loop-i-test.true at.invariant in
+    WrittenSoFar c.args.levels.now (set (set at.runs at.count at.run) (at.count + n) 0) (set at.out_levels at.count v) (at.count + n) r (at.i + 1) in
+    let told = turn c.args.levels.now at.runs at.out_levels at.count at.run at.i c.requires.levels_len c.loop-i-test.true at.invariant in
     let n = c.one_unless_zero-count.result in
     let r = c.run_after-run.result in
     subst (left n r) (sym read)
@@ -56,22 +56,26 @@ pub bounds-runs-count-then-count-lt64 : goal.bounds-runs-count-then-count-lt64
 bounds-runs-count-then-count-lt64 c = omega (arith, runs_long (goal.at.bounds-runs-count-then-count-lt64 c).At-loop-i)
 
 pub shape_of-runs-then-count-lt64 : goal.shape_of-runs-then-count-lt64
-shape_of-runs-then-count-lt64 c = runs_length c.loop-i.invariant ∙ sym (ap length c.requires.runs_value.0)
+shape_of-runs-then-count-lt64 c = runs_length c.loop-i.invariant ∙ sym (ap length c.requires.runs_value)
 
 pub shape_of-out_levels-then-count-lt64 : goal.shape_of-out_levels-then-count-lt64
-shape_of-out_levels-then-count-lt64 c = values_length c.loop-i.invariant ∙ sym (ap length c.requires.runs_value.1)
+shape_of-out_levels-then-count-lt64 c = values_length c.loop-i.invariant ∙ sym (ap length c.requires.out_levels_value)
 
 pub returns-then-count-lt64 : goal.returns-then-count-lt64
 returns-then-count-lt64 c =
     finished c.loop-i.invariant c.requires.levels_len c.loop-i-test.false
 
 pub shape_of-runs-else-count-lt64 : goal.shape_of-runs-else-count-lt64
-shape_of-runs-else-count-lt64 c = runs_long (goal.at.shape_of-runs-else-count-lt64 c).At-loop-i ∙ sym (ap length c.requires.runs_value.0)
+shape_of-runs-else-count-lt64 c = runs_long (goal.at.shape_of-runs-else-count-lt64 c).At-loop-i ∙ sym (ap length c.requires.runs_value)
 
 pub shape_of-out_levels-else-count-lt64 : goal.shape_of-out_levels-else-count-lt64
-shape_of-out_levels-else-count-lt64 c = values_length c.loop-i.invariant ∙ sym (ap length c.requires.runs_value.1)
+shape_of-out_levels-else-count-lt64 c = values_length c.loop-i.invariant ∙ sym (ap length c.requires.out_levels_value)
 
 pub returns-else-count-lt64 : goal.returns-else-count-lt64
 returns-else-count-lt64 c =
     let all = finished c.loop-i.invariant c.requires.levels_len c.loop-i-test.false in
-    (all.0, (sym (set_out c.loop-i.runs c.loop-i.count 0 (omega (arith, runs_long (goal.at.returns-else-count-lt64 c).At-loop-i, c.if-count-lt64.false))) ∙ all.1.0, all.1.1))
+    record {
+      value = all.0;
+      runs_after = sym (set_out c.loop-i.runs c.loop-i.count 0 (omega (arith, runs_long (goal.at.returns-else-count-lt64 c).At-loop-i, c.if-count-lt64.false))) ∙ all.1.0;
+      out_levels_after = all.1.1;
+    }

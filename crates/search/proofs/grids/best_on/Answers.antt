@@ -80,13 +80,13 @@ module _ (i : After-interpolate_ring_into) where
   diagonal = i.interpolate_ring_into.last.1.1.1.1.1.0
 
   right_is : right ≡ grid_by true false
-  right_is = written true false i.args.right.now right i.interpolate_ring_into.ensures.right_after.0
+  right_is = written true false i.args.right.now right i.interpolate_ring_into.ensures.right_after
 
   under_is : under ≡ grid_by false true
-  under_is = written false true i.args.under.now under i.interpolate_ring_into.ensures.right_after.1.0
+  under_is = written false true i.args.under.now under i.interpolate_ring_into.ensures.below_after
 
   diagonal_is : diagonal ≡ grid_by true true
-  diagonal_is = written true true i.args.diagonal.now diagonal i.interpolate_ring_into.ensures.right_after.1.1
+  diagonal_is = written true true i.args.diagonal.now diagonal i.interpolate_ring_into.ensures.between_after
 
   long : (hx hy : Bool) (l : List ℕ) → l ≡ grid_by hx hy → length l ≡ grid_size i.args.target.side
   long hx hy l e = ap length e ∙ length_grid patch_of stride hx hy i.args.rounding _

@@ -16,6 +16,6 @@ pub returns : goal.returns
 returns c =
     let o = c.args.corner in
     let v = c.args.v in
-    let x = to_z-of_z (sfits_of {w = w32} c.before-2.type-inv) ∙ c.before-2.ensures ∙ ap₂ corner_of (of_bits_lem o.x c.struct_told-1.given.0.1) (of_bits_lem v.x c.struct_told-2-1.given.0.1) in
-    let y = to_z-of_z (sfits_of {w = w32} c.before-3.type-inv) ∙ c.before-3.ensures ∙ ap₂ corner_of (of_bits_lem o.y c.struct_told-3-1.given.1.0.1) (of_bits_lem v.y c.struct_told-4-1.given.1.0.1) in
+    let x = to_z-of_z (sfits_of {w = w32} c.before-2.type_inv) ∙ c.before-2.ensures ∙ ap₂ corner_of (of_bits_lem o.x c.struct_told-1.given.0.1) (of_bits_lem v.x c.struct_told-2-1.given.0.1) in
+    let y = to_z-of_z (sfits_of {w = w32} c.before-3.type_inv) ∙ c.before-3.ensures ∙ ap₂ corner_of (of_bits_lem o.y c.struct_told-3-1.given.1.0.1) (of_bits_lem v.y c.struct_told-4-1.given.1.0.1) in
     λ i. record { x = x i; y = y i }

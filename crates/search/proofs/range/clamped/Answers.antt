@@ -16,10 +16,10 @@ pub overflow_sub-n-2 : goal.overflow_sub-n-2
 overflow_sub-n-2 c = let p = c.range-n.ensures in high_fits c.args.fcode c.range-n.result p.0 p.1 p.2
 
 pub overflow_sub-n-3 : goal.overflow_sub-n-3
-overflow_sub-n-3 c = sub-clamp (goal.at.overflow_sub-n-3 c).After-range-n
+overflow_sub-n-3 c = overflow_sub-n (goal.at.overflow_sub-n-3 c).After-range-n
 
 pub overflow_sub-n-4 : goal.overflow_sub-n-4
-overflow_sub-n-4 c = sub-clamp-2 (goal.at.overflow_sub-n-4 c).After-range-n
+overflow_sub-n-4 c = overflow_sub-n-2 (goal.at.overflow_sub-n-4 c).After-range-n
 
 pub returns : goal.returns
 returns c =
@@ -29,6 +29,6 @@ returns c =
     let p = c.range-n.ensures in
     let g = of_bits_lem v.x c.struct_told-1.given.0.1 in
     let h = of_bits_lem v.y c.struct_told-2-1.given.1.0.1 in
-    let x = to_z-of_z (sfits_of {w = w32} c.clamp-x.type-inv) ∙ between_ends f k p.0 p.1 p.2 cut_to v.x g c.clamp-x.ensures in
-    let y = to_z-of_z (sfits_of {w = w32} c.clamp-y.type-inv) ∙ between_ends f k p.0 p.1 p.2 cut_to v.y h c.clamp-y.ensures in
+    let x = to_z-of_z (sfits_of {w = w32} c.clamp-x.type_inv) ∙ between_ends f k p.0 p.1 p.2 cut_to v.x g c.clamp-x.ensures in
+    let y = to_z-of_z (sfits_of {w = w32} c.clamp-y.type_inv) ∙ between_ends f k p.0 p.1 p.2 cut_to v.y h c.clamp-y.ensures in
     λ i. record { x = x i; y = y i }

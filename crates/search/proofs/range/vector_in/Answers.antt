@@ -15,10 +15,10 @@ pub overflow_sub-n-2 : goal.overflow_sub-n-2
 overflow_sub-n-2 c = let p = c.range-n.ensures in high_fits c.args.fcode c.range-n.result p.0 p.1 p.2
 
 pub overflow_sub-n-3 : goal.overflow_sub-n-3
-overflow_sub-n-3 c = sub-in-range (goal.at.overflow_sub-n-3 c).After-range-n
+overflow_sub-n-3 c = overflow_sub-n (goal.at.overflow_sub-n-3 c).After-range-n
 
 pub overflow_sub-n-4 : goal.overflow_sub-n-4
-overflow_sub-n-4 c = sub-in-range-2 (goal.at.overflow_sub-n-4 c).After-range-n
+overflow_sub-n-4 c = overflow_sub-n-2 (goal.at.overflow_sub-n-4 c).After-range-n
 
 pub returns : goal.returns
 returns c =

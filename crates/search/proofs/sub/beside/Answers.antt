@@ -16,6 +16,6 @@ returns c =
     let n = c.args.n in
     let p = of_bits_lem v.x c.struct_told-1.given.0.1 in
     let q = of_bits_lem v.y c.struct_told-2-1.given.1.0.1 in
-    let x = to_z-of_z (sfits_of {w = w32} c.stepped.type-inv) ∙ c.stepped.ensures ∙ ap (λ (z : ℤ). stepped z t (n % 3)) p in
-    let y = to_z-of_z (sfits_of {w = w32} c.stepped-2.type-inv) ∙ c.stepped-2.ensures ∙ ap (λ (z : ℤ). stepped z t (n / 3)) q in
+    let x = to_z-of_z (sfits_of {w = w32} c.stepped.type_inv) ∙ c.stepped.ensures ∙ ap (λ (z : ℤ). stepped z t (n % 3)) p in
+    let y = to_z-of_z (sfits_of {w = w32} c.stepped-2.type_inv) ∙ c.stepped-2.ensures ∙ ap (λ (z : ℤ). stepped z t (n / 3)) q in
     λ i. record { x = x i; y = y i }

@@ -36,6 +36,6 @@ returns c =
     let e = c.units_per_pel-units.ensures in
     let p = of_bits_lem d.x c.struct_told-1.given.0.1 in
     let q = of_bits_lem d.y c.struct_told-2-1.given.1.0.1 in
-    let x = to_z-of_z (sfits_of {w = w32} c.scaled.type-inv) ∙ c.scaled.ensures ∙ ap₂ (λ (z : ℤ) (n : ℕ). z *ℤ pos n) p e in
-    let y = to_z-of_z (sfits_of {w = w32} c.scaled-2.type-inv) ∙ c.scaled-2.ensures ∙ ap₂ (λ (z : ℤ) (n : ℕ). z *ℤ pos n) q e in
+    let x = to_z-of_z (sfits_of {w = w32} c.scaled.type_inv) ∙ c.scaled.ensures ∙ ap₂ (λ (z : ℤ) (n : ℕ). z *ℤ pos n) p e in
+    let y = to_z-of_z (sfits_of {w = w32} c.scaled-2.type_inv) ∙ c.scaled-2.ensures ∙ ap₂ (λ (z : ℤ) (n : ℕ). z *ℤ pos n) q e in
     c.clamped.ensures ∙ ap (clamped c.args.settings.fcode) (λ i. record { x = x i; y = y i })

@@ -7,4 +7,4 @@ use Rattle.basis.proofs.Signed.{of_bits_lem}
 use Rattle.stored.proofs.read.signed_at.Goals as goal
 
 pub returns : goal.returns
-returns c = of_bits_lem c.from_bits.result c.from_bits.type-inv ∙ c.from_bits.ensures ∙ ap (to_z w32) c.word_at.ensures
+returns c = of_bits_lem c.from_bits.result c.from_bits.type_inv ∙ c.from_bits.ensures ∙ ap (to_z w32) c.word_at.ensures
