@@ -48,7 +48,7 @@ loop-i-preserved c =
     let x = get_or c.args.coefficients.now l.i (pos 0) in
     let made = c.quantise_method2_inter in
     stored_more l.invariant _ (omega arith)
-    (read_made x c.quantise_method2_inter-arg-1.given (level_by_quantiser c.args.quantiser) made.result made.type-inv made.ensures)
+    (read_made x c.quantise_method2_inter-arg-1.given (level_by_quantiser c.args.quantiser) made.result made.type_inv made.ensures)
 
 pub shape_of-out : goal.shape_of-out
 shape_of-out c = stored_long c.loop-i.invariant ∙ sym c.loop-i.invariant.was_long

@@ -50,7 +50,7 @@ loop-i-preserved c =
     let w = get_or c.args.weights.now l.i 0 in
     let made = c.quantise_method1_inter in
     stored_more l.invariant _ (omega arith)
-    (read_made x c.quantise_method1_inter-arg-1.given (level_by_weight w c.args.quantiser) made.result made.type-inv made.ensures)
+    (read_made x c.quantise_method1_inter-arg-1.given (level_by_weight w c.args.quantiser) made.result made.type_inv made.ensures)
 
 pub shape_of-out : goal.shape_of-out
 shape_of-out c = stored_long c.loop-i.invariant ∙ sym c.loop-i.invariant.was_long

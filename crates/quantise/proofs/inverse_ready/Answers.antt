@@ -39,7 +39,7 @@ loop-i-preserved c =
     let x = get_or c.args.levels.now l.i (pos 0) in
     let made = c.inverse_quant_method2_coef in
     stored_more l.invariant _ (omega arith)
-    (read_made x c.inverse_quant_method2_coef-arg-1.given (inverse_by_quantiser c.args.quantiser) made.result made.type-inv made.ensures)
+    (read_made x c.inverse_quant_method2_coef-arg-1.given (inverse_by_quantiser c.args.quantiser) made.result made.type_inv made.ensures)
 
 pub shape_of-out : goal.shape_of-out
 shape_of-out c = stored_long c.loop-i.invariant ∙ sym c.loop-i.invariant.was_long

@@ -54,7 +54,7 @@ asked c n h =
     let l = luma_at c in
     let s = start_at l in
     let a = s.args in
-    let j = s.pre.0 in
+    let j = s.requires.0 in
     subst (λ (t : Target). EightSought (local l) n a.reference.now t a.settings a.seed) (sym c.macroblock-target.ensures)
     (record {
       samples_fit = (luma_searched _ _ _ _ _ _ j (local l) (copied_is l)).source_fits;
@@ -63,7 +63,7 @@ asked c n h =
       sixteen = refl;
       placed = luma_placed _ _ _ _ _ _ j;
       settings = j.settings;
-      seed_in = s.pre.1;
+      seed_in = s.requires.1;
     })
 
 -- and what it answers, of the macroblock of the source

@@ -32,7 +32,7 @@ loop-i-preserved c =
     let p = c.position-from.ensures in
     let n = c.answered-count.ensures in
     let found = c.wanted_signed-wanted in
-    let stored = of_bits_lem found.result found.type-inv ∙ found.ensures ∙ ap₂ (λ (a b : ℕ). wanted_signed l a b at.i) p n in
+    let stored = of_bits_lem found.result found.type_inv ∙ found.ensures ∙ ap₂ (λ (a b : ℕ). wanted_signed l a b at.i) p n in
     let element = of_bits_lem (get_or area at.i (pos 0)) c.in_range-arg-1.given in (
       search rules,
       refl,

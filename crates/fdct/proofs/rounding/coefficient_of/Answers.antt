@@ -48,5 +48,5 @@ returns c =
     let called = c.nearest_up in
     of_bits_lem c.with_sign.result c.with_sign.type_inv
     ∙ c.with_sign.ensures
-    ∙ ap (λ (n : ℤ). cond (lt z zero_double) (pos 0 -ℤ n) n) (nearest z _ called.result called.type-inv called.ensures c.size.ensures)
+    ∙ ap (λ (n : ℤ). cond (lt z zero_double) (pos 0 -ℤ n) n) (nearest z _ called.result called.type_inv called.ensures c.size.ensures)
     ∙ signed_size _ z (clamped _ _ _ z c.known.ensures c.at_most.ensures c.at_least-z.ensures)

@@ -55,7 +55,7 @@ room c k h =
     let s = start (copied c) in
     let w = width_of s in
     let step = s.args.first.step in
-    patch_room w 28 16 (4 * c.before.loop.i) (step * k) (omega arith) (omega (arith, c.loop-test.true, s.pre.few))
+    patch_room w 28 16 (4 * c.before.loop.i) (step * k) (omega arith) (omega (arith, c.loop-test.true, s.requires.few))
     (omega (arith, mul-le-mul_left step h))
 
 pub overflow_mul-width : goal.overflow_mul-width
@@ -79,20 +79,20 @@ loop-i-init c =
     (omega arith, rows_none 16 a.source.now _ a.first.from (width_of (goal.at.loop-i-init c).Start) 28 zero_discount (line_of a.first) a.best)
 
 pub overflow_mul-i : goal.overflow_mul-i
-overflow_mul-i c = record { fits = omega (arith, c.loop-i-test.true, (start (goal.at.overflow_mul-i c).After-copy_block).pre.few) }
+overflow_mul-i c = record { fits = omega (arith, c.loop-i-test.true, (start (goal.at.overflow_mul-i c).After-copy_block).requires.few) }
 
 pub row_below-row-requires : goal.row_below-row-requires
 row_below-row-requires c =
     let s = start (goal.at.row_below-row-requires c).After-copy_block in
-    (wider (omega arith) s.pre.from_small, omega (arith, c.loop-i-test.true, s.pre.few))
+    (wider (omega arith) s.requires.from_small, omega (arith, c.loop-i-test.true, s.requires.few))
 
 pub overflow_mul-lines : goal.overflow_mul-lines
-overflow_mul-lines c = record { fits = omega (arith, c.loop-i-test.true, (start (goal.at.overflow_mul-lines c).After-copy_block).pre.few) }
+overflow_mul-lines c = record { fits = omega (arith, c.loop-i-test.true, (start (goal.at.overflow_mul-lines c).After-copy_block).requires.few) }
 
 pub overflow_mul-lines-in-loop-i : goal.overflow_mul-lines-in-loop-i
 overflow_mul-lines-in-loop-i c =
     let s = start (goal.at.overflow_mul-lines-in-loop-i c).After-copy_block in
-    record { fits = omega (arith, room (goal.at.overflow_mul-lines-in-loop-i c).In-loop-i 0 (omega arith), s.pre.run_small) }
+    record { fits = omega (arith, room (goal.at.overflow_mul-lines-in-loop-i c).In-loop-i 0 (omega arith), s.requires.run_small) }
 
 pub sixteen_row-b-requires : goal.sixteen_row-b-requires
 sixteen_row-b-requires c =
@@ -105,15 +105,15 @@ sixteen_row-b-requires c =
     subst (λ (r : Row). RowReady 16 a.source.now band lines r) (sym c.row_below-row.ensures)
     (record {
       is_side_is = refl;
-      source_fits = subst (λ (n : ℕ). length a.source.now ≡ n * n) s.pre.sixteen s.pre.ready.source_fits;
+      source_fits = subst (λ (n : ℕ). length a.source.now ≡ n * n) s.requires.sixteen s.requires.ready.source_fits;
       fits = λ j h. omega (arith, long, room (goal.at.sixteen_row-b-requires c).At-loop-i j (omega (arith, h)));
-      from_small = down_within 4000 4096 a.first.from (4 * i) (omega (arith, c.loop-i-test.true, s.pre.few)) s.pre.from_small;
-      run_small = omega (arith, s.pre.run_small);
+      from_small = down_within 4000 4096 a.first.from (4 * i) (omega (arith, c.loop-i-test.true, s.requires.few)) s.requires.from_small;
+      run_small = omega (arith, s.requires.run_small);
     })
 
 pub overflow_step-i : goal.overflow_step-i
 overflow_step-i c =
-    omega (arith, c.loop-i-test.true, (start (goal.at.overflow_step-i c).After-copy_block).pre.few)
+    omega (arith, c.loop-i-test.true, (start (goal.at.overflow_step-i c).After-copy_block).requires.few)
 
 pub loop-i-smaller : goal.loop-i-smaller
 loop-i-smaller c = omega (arith, c.loop-i-test.true)
@@ -125,7 +125,7 @@ loop-i-preserved c =
     let i = c.loop-i.i in (
       omega (arith, c.loop-i-test.true),
       rows_more 16 a.source.now _ a.first.from (width_of s) 28 zero_discount (line_of a.first) a.best i (4 * i) c.row_below-row.result
-          c.loop-i.b c.sixteen_row-b.result (omega (arith, c.loop-i-test.true, s.pre.few))
+          c.loop-i.b c.sixteen_row-b.result (omega (arith, c.loop-i-test.true, s.requires.few))
           (strip_columns 16 a.first.step a.first.count) refl c.row_below-row.ensures c.loop-i.invariant.1 c.sixteen_row-b.ensures,
     )
 

@@ -62,12 +62,12 @@ lines_are c =
 few_columns : (c : After-places-lines) → c.places-count.result ≤ 512
 few_columns c =
     let s = start_of (goal.at.After-places-lines c).After-lattice_from-from in
-    places_most s.args.w (above s.args.target.corner.x) s.args.target.geometry.width _ s.pre.window_small (columns_are (goal.at.After-places-lines c).After-places-count)
+    places_most s.args.w (above s.args.target.corner.x) s.args.target.geometry.width _ s.requires.window_small (columns_are (goal.at.After-places-lines c).After-places-count)
 
 few_lines : (c : After-places-lines) → c.places-lines.result ≤ 512
 few_lines c =
     let s = start_of (goal.at.After-places-lines c).After-lattice_from-from in
-    places_most s.args.w (above s.args.target.corner.y) s.args.target.geometry.height _ s.pre.window_small (lines_are c)
+    places_most s.args.w (above s.args.target.corner.y) s.args.target.geometry.height _ s.requires.window_small (lines_are c)
 
 pub lattice_from-from-requires : goal.lattice_from-from-requires
 lattice_from-from-requires c =
@@ -105,12 +105,12 @@ rows_ready : (c : After-places-lines) (most : ℕ) → 4 * (columns_at c).places
 rows_ready c most h =
     let s = start_of (from_at c) in
     record {
-      ready = s.pre.ready;
-      sixteen = s.pre.sixteen;
-      from_small = subst (Within 1023) (sym (from_at c).lattice-from.ensures) (first_within s.args.w s.args.target.corner s.pre.window_small);
+      ready = s.requires.ready;
+      sixteen = s.requires.sixteen;
+      from_small = subst (Within 1023) (sym (from_at c).lattice-from.ensures) (first_within s.args.w s.args.target.corner s.requires.window_small);
       run_small = h;
       few = few_lines c;
-      best_small = s.pre.best_small;
+      best_small = s.requires.best_small;
     }
 
 -- what a search over them keeps

@@ -45,8 +45,8 @@ sixteen_row-b-requires c =
     subst (λ (r : Row). RowReady 16 a.source.now a.patch.now lines r) (sym c.square_row-row.ensures)
     (record {
       is_side_is = refl;
-      source_fits = s.pre.0;
-      fits = λ k h. omega (arith, s.pre.1, c.loop-j-test.true, h);
+      source_fits = s.requires.0;
+      fits = λ k h. omega (arith, s.requires.1, c.loop-j-test.true, h);
       from_small = down_within 4000 4096 near_square.from j (omega (arith, c.loop-j-test.true)) from_within;
       run_small = omega arith;
     })

@@ -50,7 +50,7 @@ room c k h =
     let s = start (copied c) in
     let side = s.args.target.side in
     let w = width_of s in
-    patch_room w w side c.before.loop.j k (side_least side s.pre.ready.is_side_is) (omega (arith, c.loop-test.true)) (omega (arith, h))
+    patch_room w w side c.before.loop.j k (side_least side s.requires.ready.is_side_is) (omega (arith, c.loop-test.true)) (omega (arith, h))
 
 squared : (w : ℕ) → w ≤ 40 → w * w ≤ 1600
 squared w h = omega (arith, mul-le-mul h h)
@@ -77,13 +77,13 @@ loop-j-init c =
 pub square_row-row-requires : goal.square_row-row-requires
 square_row-row-requires c =
     let s = start (goal.at.square_row-row-requires c).After-copy_block in
-    (s.pre.from_small, omega (arith, c.loop-j-test.true, s.pre.few))
+    (s.requires.from_small, omega (arith, c.loop-j-test.true, s.requires.few))
 
 pub overflow_mul-lines : goal.overflow_mul-lines
 overflow_mul-lines c =
     let s = start (goal.at.overflow_mul-lines c).After-copy_block in
-    let side = side_most s.args.target.side s.pre.ready.is_side_is in
-    record { fits = omega (arith, room (goal.at.overflow_mul-lines c).In-loop-j 0 s.pre.some, squared (width_of s) (omega (arith, side, s.pre.few))) }
+    let side = side_most s.args.target.side s.requires.ready.is_side_is in
+    record { fits = omega (arith, room (goal.at.overflow_mul-lines c).In-loop-j 0 s.requires.some, squared (width_of s) (omega (arith, side, s.requires.few))) }
 
 pub row_search-b-requires : goal.row_search-b-requires
 row_search-b-requires c =
@@ -95,16 +95,16 @@ row_search-b-requires c =
     let lines : Lines = record { first = c.loop-j.j * width_of s; stride = width_of s } in
     subst (λ (r : Row). RowReady side a.source.now patch lines r) (sym c.square_row-row.ensures)
     (record {
-      is_side_is = s.pre.ready.is_side_is;
-      source_fits = s.pre.ready.source_fits;
+      is_side_is = s.requires.ready.is_side_is;
+      source_fits = s.requires.ready.source_fits;
       fits = λ i h. omega (arith, long, room (goal.at.row_search-b-requires c).At-loop-j i h);
-      from_small = down_within 4000 4096 a.square.from c.loop-j.j (omega (arith, c.loop-j-test.true, s.pre.few)) s.pre.from_small;
-      run_small = omega (arith, s.pre.few);
+      from_small = down_within 4000 4096 a.square.from c.loop-j.j (omega (arith, c.loop-j-test.true, s.requires.few)) s.requires.from_small;
+      run_small = omega (arith, s.requires.few);
     })
 
 pub overflow_step-j : goal.overflow_step-j
 overflow_step-j c =
-    omega (arith, c.loop-j-test.true, c.loop-j.invariant.1, (start (goal.at.overflow_step-j c).After-copy_block).pre.few)
+    omega (arith, c.loop-j-test.true, c.loop-j.invariant.1, (start (goal.at.overflow_step-j c).After-copy_block).requires.few)
 
 pub loop-j-preserved : goal.loop-j-preserved
 loop-j-preserved c =

@@ -47,7 +47,7 @@ module _ (c : After-clamp_coordinate-2) where
       ∙ ap (λ (z : ℤ). clamp_to (from s2).height (z +ℤ pos (s2.args.j + 1))) (of_bits_lem s2.args.at.y c.struct_told-2-1.given.1.0.1)
 
   low_end : low_row * (from s2).stride + s2.args.column + count s2 ≤ length (from s2).samples
-  low_end = row_end (from s2) s2.args.column low_row (count s2) s2.pre.held (omega (arith, c.clamp_coordinate-2.ensures)) s2.pre.inside
+  low_end = row_end (from s2) s2.args.column low_row (count s2) s2.requires.held (omega (arith, c.clamp_coordinate-2.ensures)) s2.requires.inside
 
 columns_is : (c : After-samples_for-columns) → c.samples_for-columns.result ≡ count (goal.at.After-samples_for-columns c).Start
 columns_is c = c.samples_for-columns.ensures
