@@ -1,6 +1,6 @@
 -- What the machine reads from the bits of a signed number: the shift that copies the sign bit, and the low bits, at any width.
 -- Assumes nothing.
-use Prim.Native.Nat.{ℕ, ◌-◌, ◌%◌, ◌<◌}
+use Prim.Native.Nat.{ℕ, ◌%◌, ◌<◌}
 use native.Mathlib.Omega.{arith}
 use native.Mathlib.Nat.{lt_trans}
 use mathlib.Core.Path.{◌≡◌, refl, ap, ◌∙◌}

@@ -1,5 +1,7 @@
 // What every crate may need and none owns: a number cut to a range, and its size. The rest of this crate is the definitions in
 // specs/ and the laws in proofs/ that the crates above cite.
+#![tactic(auto)]
+
 ghost use Rattle.std.specs.Prelude.{◌≡◌, nat_abs};
 ghost use Rattle.basis.specs.Cut.{cut_to};
 

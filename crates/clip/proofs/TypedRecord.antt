@@ -1,14 +1,14 @@
 -- What the types of a record's fields say of its numbers. Assumes nothing.
 use Prim.Native.Nat.{ℕ, zero, suc, ◌<◌, ◌^◌}
 use native.Mathlib.Omega.{arith}
-use mathlib.Core.List.{List, [], ◌∷◌, map}
+use mathlib.Core.List.{List, [], ◌∷◌}
 use lib.ListN.{get_or}
 use lib.Signed.{mag}
 use mir.Syntax.{w8, w32}
 use mir.Val.{Val}
 use denote.Array.{each}
 use denote.Shadow.{shadow}
-use borrow.Author.Rules.{elem_fits_field}
+use borrow.Author.Rules.{elem_Fits}
 use Rattle.record.specs.declared.MotionVector.{MotionVector}
 use Rattle.record.specs.declared.Record.{Record}
 use Rattle.record.specs.Zero.{zero_vector}
@@ -30,7 +30,7 @@ pub record TypedRecord (m : Record) : Type 0 where
   pub counts : (i : ℕ) → get_or m.counts i 0 < 2 ^ 8
 
 each_typed : (vs : List MotionVector) (us : List Val) (i : ℕ)
-    → shadow (each (vector-type.the_field).row.Denot (vector-type.the_field).row.own_val (map (vector-type.the_field).into vs) us)
+    → shadow (each (vector-type.the_row).Denot (vector-type.the_row).own_val vs us)
     → TypedVector (get_or vs i zero_vector)
 each_typed [] us i p = record { horizontal = omega arith; vertical = omega arith }
 each_typed (v ∷ vs) [] i p = absurd p
@@ -45,8 +45,8 @@ typed_record m us p =
       vector = record { horizontal = f.0.1.1.0.1; vertical = f.0.1.1.1.0.1 };
       sum = f.1.0.1;
       vectors = λ i. each_typed m.vectors f.1.1.0.0 i f.1.1.0.1.1;
-      sums = λ i. (elem_fits_field w32 w32 m.sums f.1.1.1.0.0 i f.1.1.1.0.1.1 tt).fits;
+      sums = λ i. (elem_Fits w32 w32 m.sums f.1.1.1.0.0 i f.1.1.1.0.1.1 tt).fits;
       luma = f.1.1.1.1.0.1;
       chroma = f.1.1.1.1.1.0.1;
-      counts = λ i. (elem_fits_field w8 w8 m.counts f.1.1.1.1.1.1.0.0 i f.1.1.1.1.1.1.0.1.1 tt).fits;
+      counts = λ i. (elem_Fits w8 w8 m.counts f.1.1.1.1.1.1.0.0 i f.1.1.1.1.1.1.0.1.1 tt).fits;
     }

@@ -1,5 +1,7 @@
 // What the program broodline reads and prints, on slices and values: the header of its input, how long the planes are that follow it,
 // and its lines (rules W1 to W7).
+#![tactic(auto)]
+
 ghost use Rattle.std.specs.Prelude.{◌≡◌, cond, [], ◌+◌, ◌*◌, ◌≤◌};
 ghost use Rattle.record.specs.Count.{four_total};
 ghost use Rattle.clip.specs.Header.{head_of, no_head, head_reply, header_of};

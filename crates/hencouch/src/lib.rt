@@ -1,4 +1,6 @@
 // The entries for C and Rust: numbers and slices only, a slice as a pointer and a length. Each answers 0, or the refusal's number.
+#![tactic(auto)]
+
 pub mod chroma;
 pub mod copied;
 pub mod inter;

@@ -12,9 +12,8 @@ use Rattle.plane.specs.declared.SourceSize.{SourceSize}
 use Rattle.plane.specs.Source.{macroblocks_of, source_side_reply}
 use Rattle.plane.proofs.ReadySource.{sides_are}
 use Rattle.reader.specs.Handed.{Areas}
-use Rattle.macroblock.specs.Request.{Request}
 use Rattle.macroblock.specs.Answer.{Answer, answer_of}
-use Rattle.macroblock.specs.Predicted.{PredictedRequest, predicted_answer_of}
+use Rattle.macroblock.specs.Predicted.{predicted_answer_of}
 use Rattle.picture.specs.declared.Run.{Run}
 use Rattle.picture.specs.Run.{macroblocks_in, fresh_run, run_reply, after, unless_run, step_answer, step_of, predicted_step_answer, predicted_step_of}
 use Rattle.picture.specs.Calls.{Call, Step, StepPredicted, Close, asked, predicted_asked, run_after, records_given, events_over, sums_over, InTypes, Totalled}

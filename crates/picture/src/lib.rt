@@ -1,4 +1,6 @@
 // A picture's run: opened with the source's sizes, stepped once for each macroblock, row by row, closed with totals.
+#![tactic(auto)]
+
 ghost use Rattle.std.specs.Prelude.{◌≡◌, ◌<◌, nat_lt};
 ghost use Rattle.refusal.specs.declared.Reply.TheVariants.{Done};
 ghost use Rattle.refusal.specs.Reply.{done};

@@ -1,5 +1,7 @@
 // Planes of samples. A reference is read with both coordinates clamped into it (7.6.4), sample by sample or as a copied block;
 // `source` has the blocks of the picture that is coded.
+#![tactic(auto)]
+
 ghost use Rattle.std.specs.Prelude.{◌≡◌, ◌+◌, ◌-◌, ◌*◌, min, ltb, pos, ◌+ℤ◌, length};
 ghost use Rattle.refusal.specs.Reply.{done};
 ghost use Rattle.plane.specs.Plane.{geometry_of, plane_of, clamp_to, copied_block, columns_inside};

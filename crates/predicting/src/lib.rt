@@ -1,4 +1,6 @@
 // Prediction where the mode is a number, 0 for half samples, 1 for quarter samples: 2, then as the mode has it.
+#![tactic(auto)]
+
 ghost use Rattle.std.specs.Prelude.{◌≡◌, length};
 ghost use Rattle.refusal.specs.Reply.{done};
 ghost use Rattle.plane.specs.Plane.{plane_of};

@@ -1,4 +1,6 @@
 // What coder and reader both hold: a motion vector, and the record of a macroblock.
+#![tactic(auto)]
+
 ghost use Rattle.std.specs.Prelude.{◌≡◌, ◌<◌};
 ghost use Rattle.record.specs.Zero.{zero_vector, no_record};
 ghost use Rattle.record.specs.Pattern.{worth, is_coded};

@@ -12,7 +12,7 @@ use borrow.Author.Tests.{leb-true}
 use Rattle.basis.specs.Cut.{cut_to}
 use Rattle.basis.specs.Parts.{above, below}
 use Rattle.basis.proofs.Case.{both}
-use Rattle.basis.proofs.Cut.{cut_none, cut_least, cut_most}
+use Rattle.basis.proofs.Cut.{cut_least, cut_most}
 use Rattle.basis.proofs.Parts.{sides, size_parts}
 use Rattle.basis.proofs.Signed.{le_true, le_is, of_bits_lem}
 use Rattle.refusal.specs.Test.{between, in_range}

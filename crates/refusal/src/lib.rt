@@ -1,4 +1,6 @@
 // Why a call is turned back, by its number (rules F1 to F31); the one reply; and what lists of refusals are written with.
+#![tactic(auto)]
+
 ghost use Rattle.std.specs.Prelude.{◌≡◌, ◌&&◌, ◌||◌, ◌*◌, eqb};
 ghost use Rattle.refusal.specs.Number.{number_of, code_of};
 ghost use Rattle.refusal.specs.Reply.{unless, and_then};

@@ -4,7 +4,7 @@ use native.Mathlib.Omega.{arith}
 use mathlib.Core.Path.{◌≡◌, refl, sym, ap, ◌∙◌, subst}
 use lib.IntN.{ℤ, pos, negsuc, ◌-ℤ◌}
 use mir.Syntax.{w32}
-use mir.Val.{SFits, Fits, to_z, of_z}
+use mir.Val.{SFits, to_z, of_z}
 use mir.ValLaws.{to_z_pos, to_z-neg, to_z-Fits, to_z-of_z}
 
 less_one : (m : ℕ) → negsuc 0 -ℤ pos m ≡ negsuc m

@@ -6,7 +6,7 @@ use mathlib.Core.List.{List, []}
 use mathlib.Core.Path.{◌≡◌, sym, ap, ap₂, ◌∙◌}
 use borrow.Author.Tests.{eq-eqb, ne_eqb}
 use lib.ListN.{length, take, drop, length-drop, drop_of_length-le}
-use lib.Seq.{take-nil, take_all, take-take, length-take-le}
+use lib.Seq.{take-nil, take_all, length-take-le}
 use Rattle.stored.specs.Call.{replyAt, position_of, count_of, area_of}
 use Rattle.stored.specs.Same.{answered_of}
 

@@ -1,9 +1,8 @@
 -- A stored call (docs/STORED.md): the entry's number, the reply, where the answers begin, then slots of eight bytes: a number takes one,
 -- an area two, where it stands and how many elements it has. Numbers stand high byte first; past its end a call reads as 0.
-use Rattle.std.specs.Prelude.{ℕ, zero, suc, ◌+◌, ◌*◌, Bool, true, cond, ◌&&◌, List, eqb, leb, ltb, ℤ, pos, length, get_or, take, drop}
+use Rattle.std.specs.Prelude.{ℕ, ◌+◌, ◌*◌, List, ℤ, get_or, take, drop}
 use Rattle.std.specs.Int.{w32}
 use Rattle.std.proofs.Common.{to_z}
-use Rattle.refusal.specs.Test.{in_range}
 
 abbrev pub slot_at : ℕ → ℕ
 slot_at k = 6 + 8 * k

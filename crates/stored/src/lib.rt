@@ -1,5 +1,7 @@
 // A stored call as it stands in crates/compare/data/calls (docs/STORED.md): its numbers and areas, and whether a reply and what was
 // lent are the stored ones.
+#![tactic(auto)]
+
 ghost use Rattle.std.specs.Prelude.{◌≡◌, ◌&&◌, ◌+◌, ◌*◌, eqb, get_or, take};
 ghost use Rattle.basis.specs.Lists.{tabulate};
 ghost use Rattle.stored.specs.Call.{slot_at, replyAt, word_at, long_at, signed_at, position_of, count_of, area_of};

@@ -1,7 +1,6 @@
 -- `clip::four_words` meets its contract.
 use Prim.Native.Nat.{ℕ}
 use mathlib.Core.List.{List, [], ◌∷◌, ◌++◌}
-use borrow.Author.Rules.{rules}
 use Rattle.record.specs.Count.{four_total}
 use Rattle.clip.specs.Decimal.{decimal}
 use Rattle.clip.specs.Line.{vector_words, vector_at, four_words}

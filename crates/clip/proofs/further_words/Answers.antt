@@ -2,7 +2,6 @@
 use Prim.Native.Nat.{ℕ}
 use mathlib.Core.List.{List, []}
 use mathlib.Core.Path.{sym, ap, ◌∙◌}
-use borrow.Author.Rules.{rules}
 use Rattle.basis.proofs.Case.{then, else}
 use Rattle.clip.specs.Line.{spaced, four_words}
 use Rattle.clip.specs.ToldPush.{text_in, pushes}

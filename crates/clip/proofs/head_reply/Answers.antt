@@ -1,7 +1,6 @@
 -- `clip::head_reply` meets its contract.
 use mathlib.Core.Bool.{Bool, ◌&&◌}
 use mathlib.Core.Path.{◌≡◌, ap, ap₂, ◌∙◌}
-use borrow.Author.Rules.{rules}
 use Rattle.refusal.specs.declared.Refusal.{Refusal}
 use Rattle.refusal.specs.declared.Refusal.TheVariants.{Fcode, Mode, SourceSide, Quantiser, Choice}
 use Rattle.refusal.specs.declared.Reply.{Reply}

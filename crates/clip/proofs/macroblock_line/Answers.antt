@@ -1,7 +1,6 @@
 -- `clip::macroblock_line` meets its contract.
 use mathlib.Core.Bool.{cond}
 use mathlib.Core.List.{[], ◌++◌}
-use borrow.Author.Rules.{rules}
 use Rattle.clip.specs.Line.{macroblock_words, four_words, macroblock_line}
 use Rattle.clip.specs.ToldPush.{no_text}
 use Rattle.clip.proofs.Lines.{further_more, ended, held_whole}

@@ -1,7 +1,6 @@
 -- `clip::plane_lengths` meets its contract.
 use native.Mathlib.Omega.{arith}
 use mathlib.Core.Path.{◌≡◌, sym, ◌∙◌}
-use borrow.Author.Rules.{rules}
 use Rattle.refusal.specs.declared.Reply.TheVariants.{Done}
 use Rattle.clip.specs.declared.Head.{Head}
 use Rattle.clip.specs.Header.{head_reply}

@@ -1,7 +1,6 @@
 -- `clip::read_header` meets its contract.
 use mathlib.Core.Path.{◌≡◌, ap, ◌∙◌}
 use lib.Dec.{leb}
-use borrow.Author.Rules.{rules}
 use Rattle.refusal.specs.declared.Refusal.TheVariants.{Length}
 use Rattle.refusal.specs.Reply.{unless}
 use Rattle.clip.specs.Header.{head_reply, header_reply}

@@ -2,7 +2,6 @@
 use Prim.Native.Nat.{ℕ, ◌<◌}
 use mathlib.Core.List.{[], ◌∷◌}
 use mathlib.Core.Path.{◌≡◌, ◌∙◌, subst}
-use borrow.Author.Rules.{rules}
 use Rattle.refusal.specs.Number.{number_of}
 use Rattle.clip.specs.Decimal.{decimal}
 use Rattle.clip.specs.Line.{refused_word, refusal_line}
@@ -14,10 +13,6 @@ use Rattle.clip.proofs.refusal_line.Goals as goal
 
 number_is : (c : After-wide8) → c.wide8.result ≡ number_of c.args.why
 number_is c = c.wide8.ensures.0 ∙ c.number.ensures
-
-slice-aggregate-put-bytes : tie.Need-slice-aggregate-put-bytes
-slice-aggregate-put-bytes c = search rules
-
 
 pub returns : goal.returns
 unfolding refusal_line

@@ -1,5 +1,5 @@
 -- `picture::close` meets its contract.
-use Rattle.std.proofs.Common.{sym, ◌∙◌, rules}
+use Rattle.std.proofs.Common.{sym, ◌∙◌}
 use Rattle.picture.proofs.Replies.{too_soon, closed}
 use Rattle.picture.proofs.close.Goals as goal
 

@@ -1,5 +1,5 @@
 -- `picture::has_next` meets its contract.
-use Rattle.std.proofs.Common.{ℕ, ◌/◌, ◌<◌, ltb, sym, ap, ◌∙◌, arith, rules}
+use Rattle.std.proofs.Common.{ℕ, ◌/◌, ◌<◌, ltb, sym, ap, ◌∙◌, arith}
 use Rattle.plane.specs.Source.{macroblocks_of}
 use Rattle.picture.proofs.Places.{none_left, row_left}
 use Rattle.picture.proofs.has_next.Goals as goal

@@ -1,5 +1,5 @@
 -- `picture::next_place` meets its contract.
-use Rattle.std.proofs.Common.{◌≡◌, ℕ, ◌/◌, ◌%◌, sym, ap, ◌∙◌, ap₂, rules}
+use Rattle.std.proofs.Common.{◌≡◌, ℕ, ◌/◌, ◌%◌, sym, ap, ◌∙◌, ap₂}
 use native.Mathlib.Nat.{mod-zero, div-zero}
 use Rattle.plane.specs.declared.MacroblockPlace.{MacroblockPlace}
 use Rattle.picture.specs.Run.{next_place}

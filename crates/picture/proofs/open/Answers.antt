@@ -1,5 +1,5 @@
 -- `picture::open` meets its contract.
-use Rattle.std.proofs.Common.{sym, ◌∙◌, rules}
+use Rattle.std.proofs.Common.{sym, ◌∙◌}
 use Rattle.refusal.specs.declared.Reply.TheVariants.{Done, Refused}
 use Rattle.picture.proofs.Replies.{opening}
 use Rattle.picture.proofs.open.Goals as goal

@@ -1,7 +1,6 @@
 -- `picture::run_reply` meets its contract.
 use Rattle.picture.specs.Run.{run_reply}
 use Rattle.picture.proofs.Replies.{judging}
-use Rattle.std.proofs.Common.{rules}
 use Rattle.picture.proofs.run_reply.Goals as goal
 
 pub returns : goal.returns

@@ -1,5 +1,5 @@
 -- `picture::step` meets its contract.
-use Rattle.std.proofs.Common.{◌≡◌, sym, ◌∙◌, rules}
+use Rattle.std.proofs.Common.{◌≡◌, sym, ◌∙◌}
 use Rattle.refusal.specs.declared.Reply.TheVariants.{Done}
 use Rattle.refusal.proofs.Replies.{not_done}
 use Rattle.macroblock.specs.Request.{Request, request}

@@ -6,7 +6,6 @@ use mir.Val.{to_z, of_z}
 use mir.ValLaws.{to_z-of_z}
 use Rattle.refusal.proofs.Replies.{joined}
 use Rattle.plane.specs.Reference.{motion_reply, block_reply}
-use borrow.Author.Rules.{rules}
 use Rattle.plane.proofs.block_numbers_reply.Goals.{Start}
 use Rattle.plane.proofs.block_numbers_reply.Goals as goal
 

@@ -1,10 +1,9 @@
 -- `plane::block_reply` meets its contract.
-use mathlib.Core.Path.{◌≡◌, ap₂, ◌∙◌}
+use mathlib.Core.Path.{ap₂, ◌∙◌}
 use lib.IntN.{ℤ}
 use Rattle.basis.proofs.Signed.{of_bits_lem}
 use Rattle.plane.specs.Corner.{block_at}
 use Rattle.plane.specs.Reference.{block_reply}
-use borrow.Author.Rules.{rules}
 use Rattle.plane.proofs.block_reply.Goals as goal
 
 pub returns : goal.returns

@@ -10,7 +10,6 @@ use mir.Facts.{sfits_lit}
 use Rattle.basis.specs.Parts.{above, below}
 use Rattle.basis.proofs.Parts.{sides, above-add, above-sub, below_sub}
 use Rattle.basis.proofs.Signed.{lt_read, lt_true, lt_false, cast_read, cast_value, turned_fits}
-use borrow.Author.Rules.{rules}
 use Rattle.plane.proofs.clamp_coordinate.Goals.{Else-x-lt0, Then-x-lt0}
 use Rattle.plane.proofs.clamp_coordinate.Goals as goal
 

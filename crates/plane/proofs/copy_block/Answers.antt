@@ -10,7 +10,6 @@ use Rattle.refusal.specs.Reply.{and_then}
 use Rattle.refusal.proofs.Replies.{joined, first_done, then_done}
 use Rattle.plane.specs.Reference.{reference_reply, length_reply, copy_reply}
 use Rattle.plane.proofs.Ready.{usable, length_is}
-use borrow.Author.Rules.{rules}
 use Rattle.plane.proofs.copy_block.Goals.{After-and_then-reply, In-Done, Start}
 use Rattle.plane.proofs.copy_block.Goals as goal
 
@@ -37,16 +36,16 @@ copy_rows-requires c =
 pub returns-in-Refused : goal.returns-in-Refused
 unfolding copy_reply
 returns-in-Refused c = record {
-      value = sym c.in-Refused.is ∙ answered (goal.at.returns-in-Refused c).After-and_then-reply;
-      out_after = refl;
-    }
+  value = sym c.in-Refused.is ∙ answered (goal.at.returns-in-Refused c).After-and_then-reply;
+  out_after = refl;
+}
 
 pub returns-then-w-ne0 : goal.returns-then-w-ne0
 unfolding copy_reply
 returns-then-w-ne0 c = record {
-      value = sym (ready (goal.at.returns-then-w-ne0 c).In-Done);
-      out_after = c.copy_rows.ensures;
-    }
+  value = sym (ready (goal.at.returns-then-w-ne0 c).In-Done);
+  out_after = c.copy_rows.ensures;
+}
 
 -- a block without columns
 pub returns-else-w-ne0 : goal.returns-else-w-ne0

@@ -5,14 +5,13 @@ use borrow.Author.Tests.{eq-eqb, ne_eqb}
 use Rattle.refusal.specs.declared.Refusal.TheVariants.{Length}
 use Rattle.refusal.specs.declared.Reply.TheVariants.{Done}
 use Rattle.refusal.specs.Reply.{unless}
-use borrow.Author.Rules.{rules}
 use Rattle.plane.proofs.copy_samples.Goals as goal
 
 pub returns-then-from-out : goal.returns-then-from-out
 returns-then-from-out c = record {
-      value = ap (λ (t : Bool). unless t Length Done) (sym (ne_eqb _ _ c.if-from-out.true));
-      out_after = refl;
-    }
+  value = ap (λ (t : Bool). unless t Length Done) (sym (ne_eqb _ _ c.if-from-out.true));
+  out_after = refl;
+}
 
 pub returns : goal.returns
 returns c =

@@ -6,7 +6,6 @@ use mir.ValLaws.{to_z-of_z}
 use Rattle.refusal.specs.declared.Reply.TheVariants.{Done}
 use Rattle.plane.specs.Reference.{reference_reply}
 use Rattle.plane.proofs.Ready.{usable}
-use borrow.Author.Rules.{rules}
 use Rattle.plane.proofs.fetch_clamped.Goals.{In-Done}
 use Rattle.plane.proofs.fetch_clamped.Goals as goal
 

@@ -2,7 +2,6 @@
 use native.Mathlib.Omega.{arith}
 use Rattle.basis.proofs.Bounds.{product_le}
 use Rattle.plane.proofs.LastByte.{inside_none, inside_still, inside_some}
-use borrow.Author.Rules.{rules}
 use Rattle.plane.proofs.is_inside.Goals as goal
 
 pub overflow_mul-result : goal.overflow_mul-result

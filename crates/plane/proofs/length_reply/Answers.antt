@@ -1,6 +1,5 @@
 -- `plane::length_reply` meets its contract.
 use Rattle.plane.specs.Reference.{length_reply}
-use borrow.Author.Rules.{rules}
 use Rattle.plane.proofs.length_reply.Goals as goal
 
 pub returns : goal.returns

@@ -1,6 +1,5 @@
 -- `plane::motion_reply` meets its contract.
 use Rattle.plane.specs.Reference.{motion_reply}
-use borrow.Author.Rules.{rules}
 use Rattle.plane.proofs.motion_reply.Goals as goal
 
 pub returns : goal.returns

@@ -1,6 +1,5 @@
 -- `plane::reference_bytes_reply` meets its contract.
 use Rattle.plane.specs.Reference.{reference_bytes_reply}
-use borrow.Author.Rules.{rules}
 use Rattle.plane.proofs.reference_bytes_reply.Goals as goal
 
 pub returns : goal.returns

@@ -1,24 +1,21 @@
 -- `plane::reference_reply` meets its contract.
-use Prim.Native.Nat.{◌-◌}
 use native.Mathlib.Omega.{arith}
 use mathlib.Core.Bool.{true}
 use mathlib.Core.Path.{◌≡◌, sym, ◌∙◌}
-use borrow.Author.Tests.{not-true, not-false}
 use Rattle.plane.specs.Reference.{reference_size_reply, reference_bytes_reply, reference_reply, sized}
 use Rattle.plane.proofs.Ready.{Sized, sized_is, last_fits}
-use borrow.Author.Rules.{rules}
 use Rattle.plane.proofs.reference_reply.Goals.{Else-not-is_sized}
 use Rattle.plane.proofs.reference_reply.Goals as goal
 
 fits : (c : Else-not-is_sized) → sized c.args.geometry ≡ true
-fits c = sym c.is_sized.ensures ∙ not-false _ c.if-not-is_sized.false
+fits c = sym c.is_sized.ensures ∙ c.if-not-is_sized.false
 
 within : (c : Else-not-is_sized) → Sized c.args.geometry
 within c = sized_is _ (fits c)
 
 pub returns-then-not-is_sized : goal.returns-then-not-is_sized
 unfolding reference_reply reference_size_reply
-returns-then-not-is_sized c = rw (sym c.is_sized.ensures ∙ not-true _ c.if-not-is_sized.true)
+returns-then-not-is_sized c = rw (sym c.is_sized.ensures ∙ c.if-not-is_sized.true)
 
 pub overflow_sub-h : goal.overflow_sub-h
 overflow_sub-h c = (within (goal.at.overflow_sub-h c).Else-not-is_sized).low_h

@@ -1,6 +1,5 @@
 -- `plane::reference_size_reply` meets its contract.
 use Rattle.plane.specs.Reference.{reference_size_reply}
-use borrow.Author.Rules.{rules}
 use Rattle.plane.proofs.reference_size_reply.Goals as goal
 
 pub returns : goal.returns

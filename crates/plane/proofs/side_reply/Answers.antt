@@ -1,6 +1,5 @@
 -- `plane::side_reply` meets its contract.
 use Rattle.plane.specs.Reference.{side_reply}
-use borrow.Author.Rules.{rules}
 use Rattle.plane.proofs.side_reply.Goals as goal
 
 pub returns : goal.returns

@@ -1,5 +1,4 @@
 -- `plane::vector_in_range` meets its contract: both coordinates are read back as they were handed in.
-use borrow.Author.Rules.{rules}
 use mathlib.Core.Bool.{Bool, ◌&&◌}
 use mathlib.Core.Path.{ap, ap₂, ◌∙◌}
 use lib.IntN.{pos, negsuc}

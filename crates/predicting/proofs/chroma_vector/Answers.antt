@@ -8,7 +8,6 @@ use Rattle.prediction.specs.declared.ChromaVector.{ChromaVector}
 use Rattle.prediction.specs.Luma.{mode_of}
 use Rattle.prediction.specs.Chroma.{chroma_vector_of}
 use Rattle.predicting.specs.Chroma.{unless_mode}
-use borrow.Author.Rules.{rules}
 use Rattle.predicting.proofs.chroma_vector.Goals.{Start}
 use Rattle.predicting.proofs.chroma_vector.Goals as goal
 

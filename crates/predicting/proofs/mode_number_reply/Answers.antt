@@ -1,6 +1,5 @@
 -- `predicting::mode_number_reply` meets its contract.
 use Rattle.predicting.specs.Mode.{mode_number_reply}
-use borrow.Author.Rules.{rules}
 use Rattle.predicting.proofs.mode_number_reply.Goals as goal
 
 pub returns : goal.returns

@@ -8,7 +8,6 @@ use Rattle.refusal.specs.Reply.{done, and_then}
 use Rattle.prediction.specs.declared.BVopSampleMode.{BVopSampleMode}
 use Rattle.prediction.specs.Luma.{mode_of, predicted_block, predict_reply}
 use Rattle.plane.specs.Plane.{plane_of}
-use borrow.Author.Rules.{rules}
 use Rattle.predicting.proofs.predict_luma_block.Goals.{Start}
 use Rattle.predicting.proofs.predict_luma_block.Goals as goal
 

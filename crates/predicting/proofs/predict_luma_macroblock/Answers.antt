@@ -9,7 +9,6 @@ use Rattle.prediction.specs.declared.BVopSampleMode.{BVopSampleMode}
 use Rattle.prediction.specs.Luma.{mode_of}
 use Rattle.prediction.specs.Macroblock.{macroblock_reply, macroblock_luma}
 use Rattle.plane.specs.Plane.{plane_of}
-use borrow.Author.Rules.{rules}
 use Rattle.predicting.proofs.predict_luma_macroblock.Goals.{Start}
 use Rattle.predicting.proofs.predict_luma_macroblock.Goals as goal
 

@@ -7,7 +7,6 @@ use Rattle.prediction.specs.declared.BVopSampleMode.{BVopSampleMode}
 use Rattle.prediction.specs.Luma.{mode_of}
 use Rattle.prediction.specs.Planes.{planes_of, lengths_in}
 use Rattle.prediction.specs.Prediction.{prediction_reply, macroblock_prediction}
-use borrow.Author.Rules.{rules}
 use Rattle.predicting.proofs.predict_macroblock.Goals.{Start}
 use Rattle.predicting.proofs.predict_macroblock.Goals as goal
 

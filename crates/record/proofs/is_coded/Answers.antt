@@ -1,13 +1,11 @@
 -- `record::is_coded` meets its contract.
 use Prim.Native.Nat.{ℕ}
-use mathlib.Core.Bool.{Bool, cond, not}
-use mathlib.Core.Path.{◌≡◌, sym, ap, ap₂}
-use borrow.Author.Rules.{rules}
+use mathlib.Core.Bool.{Bool, not}
+use mathlib.Core.Path.{sym, ap₂}
 use borrow.Author.Tests.{lt-ltb, le-ltb}
 use lib.Bits.{bit_and}
 use lib.Dec.{eqb}
 use Rattle.basis.proofs.Case.{then, else}
-use Rattle.record.specs.Pattern.{pattern_of, worth}
 use Rattle.record.proofs.is_coded.Goals as goal
 
 -- the bit of a mask in a pattern

@@ -1,5 +1,4 @@
 -- `record::no_record` meets its contract.
-use borrow.Author.Rules.{rules}
 use Rattle.record.proofs.no_record.Goals as goal
 
 pub returns : goal.returns

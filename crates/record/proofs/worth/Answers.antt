@@ -4,7 +4,6 @@ use mathlib.Core.List.{[], ◌∷◌}
 use mathlib.Core.Path.{sym}
 use lib.ListN.{get_or-eq_default}
 use Rattle.basis.proofs.Small.{next_up}
-use borrow.Author.Rules.{rules}
 use Rattle.record.proofs.worth.Goals as goal
 
 pub returns-in_default : goal.returns-in_default

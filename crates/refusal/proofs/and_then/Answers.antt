@@ -1,5 +1,4 @@
 -- `refusal::and_then` meets its contract.
-use borrow.Author.Rules.{rules}
 use Rattle.refusal.proofs.and_then.Goals as goal
 
 pub returns-in-Refused : goal.returns-in-Refused

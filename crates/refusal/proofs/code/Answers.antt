@@ -1,5 +1,4 @@
 -- `refusal::code` meets its contract.
-use borrow.Author.Rules.{rules}
 use Rattle.refusal.proofs.code.Goals as goal
 
 pub returns-in-Refused : goal.returns-in-Refused

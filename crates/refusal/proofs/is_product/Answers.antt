@@ -1,6 +1,5 @@
 -- `refusal::is_product` meets its contract: small sides are multiplied, others divided.
 use native.Mathlib.Omega.{arith}
-use borrow.Author.Rules.{rules}
 use Rattle.basis.proofs.Bounds.{product_le}
 use Rattle.refusal.proofs.Product.{product_none, product_rest, product_whole}
 use Rattle.refusal.proofs.is_product.Goals as goal

@@ -1,5 +1,4 @@
 -- `refusal::number` meets its contract: in each arm `number_of` of the variant is the arm's number.
-use borrow.Author.Rules.{rules}
 use Rattle.refusal.proofs.number.Goals as goal
 
 pub returns-in-Fcode : goal.returns-in-Fcode

@@ -1,5 +1,4 @@
 -- `refusal::unless` meets its contract.
-use borrow.Author.Rules.{rules}
 use Rattle.refusal.proofs.unless.Goals as goal
 
 pub returns-then-holds : goal.returns-then-holds

@@ -1,13 +1,9 @@
 -- `stored::bytes_same` meets its contract.
-use borrow.Author.Rules.{rules}
-use Prim.Native.Nat.{ℕ, ◌-◌, ◌≤◌}
-use native.Mathlib.Omega.{arith}
-use mathlib.Core.Path.{◌≡◌, refl, ap, ap₂, ◌∙◌}
-use lib.Dec.{leb, eqb}
-use lib.ListN.{length, get_or}
-use Rattle.stored.specs.Call.{position_of}
-use Rattle.stored.specs.Same.{up_to, answered_of, wanted_byte, byte_is, bytes_same}
-use Rattle.stored.proofs.Each.{up_none, up_more}
+use Prim.Native.Nat.{◌≤◌}
+use mathlib.Core.Path.{◌≡◌}
+use lib.Dec.{leb}
+use lib.ListN.{length}
+use Rattle.stored.specs.Same.{up_to, answered_of, byte_is}
 use Rattle.stored.proofs.bytes_same.Given as goal
 
 abbrev pub invariant-loop-i : goal.invariant-loop-i

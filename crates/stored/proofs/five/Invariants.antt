@@ -1,11 +1,8 @@
 -- `stored::five` meets its contract.
-use borrow.Author.Rules.{rules}
 use Prim.Native.Nat.{ℕ, ◌+◌, ◌*◌, ◌-◌, ◌≤◌}
-use native.Mathlib.Omega.{arith}
-use mathlib.Core.Path.{◌≡◌, refl, sym, ap, ◌∙◌}
+use mathlib.Core.Path.{◌≡◌}
 use lib.ListN.{length}
-use Rattle.basis.proofs.Lists.{filled, filled_none, filled_set, filled_end}
-use Rattle.basis.specs.Lists.{tabulate}
+use Rattle.basis.proofs.Lists.{filled}
 use Rattle.stored.specs.Call.{long_at}
 use Rattle.stored.proofs.five.Given as goal
 

@@ -1,5 +1,4 @@
 -- `stored::signed` meets its contract.
-use borrow.Author.Rules.{rules}
 use Prim.Native.Nat.{ℕ, ◌+◌}
 use mathlib.Core.Path.{ap, ◌∙◌}
 use Rattle.basis.proofs.Signed.{of_bits_lem}

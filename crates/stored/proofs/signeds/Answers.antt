@@ -1,11 +1,11 @@
 -- `stored::signeds` meets its contract.
 use borrow.Author.Rules.{rules}
-use Prim.Native.Nat.{ℕ, ◌+◌, ◌*◌, ◌-◌, ◌≤◌}
+use Prim.Native.Nat.{ℕ, ◌+◌, ◌*◌}
 use native.Mathlib.Omega.{arith}
-use mathlib.Core.Path.{◌≡◌, sym, ap, ◌∙◌}
+use mathlib.Core.Path.{sym, ap, ◌∙◌}
 use lib.IntN.{ℤ, negsuc}
 use lib.ListN.{length, length-replicate}
-use Rattle.basis.proofs.Lists.{filled, filled_none, filled_set, filled_end}
+use Rattle.basis.proofs.Lists.{filled_none, filled_set, filled_end}
 use Rattle.basis.proofs.Signed.{of_bits_lem}
 use Rattle.basis.specs.Lists.{tabulate}
 use Rattle.stored.specs.Call.{signed_at}

@@ -1,6 +1,6 @@
 -- `stored::signeds_same` meets its contract.
 use borrow.Author.Rules.{rules}
-use Prim.Native.Nat.{ℕ, ◌-◌, ◌≤◌}
+use Prim.Native.Nat.{ℕ}
 use native.Mathlib.Omega.{arith}
 use mathlib.Core.Path.{◌≡◌, refl, ap, ap₂, ◌∙◌}
 use lib.Dec.{leb}
@@ -8,7 +8,6 @@ use lib.IntN.{ℤ, pos}
 use lib.ListN.{length, get_or}
 use Rattle.basis.proofs.Signed.{of_bits_lem}
 use Rattle.refusal.specs.Test.{in_range}
-use Rattle.stored.specs.Call.{position_of}
 use Rattle.stored.specs.Same.{up_to, answered_of, wanted_signed, signed_is, signeds_same}
 use Rattle.stored.proofs.Each.{up_none, up_more}
 use Rattle.stored.proofs.signeds_same.Goals as goal

@@ -1,16 +1,9 @@
 -- `stored::signeds_same` meets its contract.
-use borrow.Author.Rules.{rules}
-use Prim.Native.Nat.{ℕ, ◌-◌, ◌≤◌}
-use native.Mathlib.Omega.{arith}
-use mathlib.Core.Path.{◌≡◌, refl, ap, ap₂, ◌∙◌}
+use Prim.Native.Nat.{◌≤◌}
+use mathlib.Core.Path.{◌≡◌}
 use lib.Dec.{leb}
-use lib.IntN.{ℤ, pos}
-use lib.ListN.{length, get_or}
-use Rattle.basis.proofs.Signed.{of_bits_lem}
-use Rattle.refusal.specs.Test.{in_range}
-use Rattle.stored.specs.Call.{position_of}
-use Rattle.stored.specs.Same.{up_to, answered_of, wanted_signed, signed_is, signeds_same}
-use Rattle.stored.proofs.Each.{up_none, up_more}
+use lib.ListN.{length}
+use Rattle.stored.specs.Same.{up_to, answered_of, signed_is}
 use Rattle.stored.proofs.signeds_same.Given as goal
 
 abbrev pub invariant-loop-i : goal.invariant-loop-i

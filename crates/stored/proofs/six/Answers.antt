@@ -1,10 +1,10 @@
 -- `stored::six` meets its contract.
 use borrow.Author.Rules.{rules}
-use Prim.Native.Nat.{ℕ, ◌+◌, ◌-◌, ◌≤◌}
+use Prim.Native.Nat.{ℕ, ◌+◌}
 use native.Mathlib.Omega.{arith}
-use mathlib.Core.Path.{◌≡◌, refl, sym, ap, ◌∙◌}
-use lib.ListN.{length, get_or}
-use Rattle.basis.proofs.Lists.{filled, filled_none, filled_set, filled_end}
+use mathlib.Core.Path.{refl, sym, ap, ◌∙◌}
+use lib.ListN.{get_or}
+use Rattle.basis.proofs.Lists.{filled_none, filled_set, filled_end}
 use Rattle.basis.specs.Lists.{tabulate}
 use Rattle.stored.proofs.six.Goals as goal
 

@@ -1,7 +1,4 @@
 -- `stored::word` meets its contract.
-use borrow.Author.Rules.{rules}
-use Rattle.stored.proofs.read.slot.Reads as slot-reads
-use Rattle.stored.proofs.read.word_at.Reads as word-at-reads
 use Rattle.stored.proofs.word.Goals as goal
 
 pub returns : goal.returns

@@ -3,7 +3,6 @@ use mathlib.Core.Path.{◌∙◌}
 use Rattle.basis.proofs.Signed.{of_bits_lem}
 use Rattle.prediction.specs.declared.PvopMbMotion.TheVariants.{FourMv}
 use Rattle.areas.specs.Numbers.{vector_of}
-use borrow.Author.Rules.{rules}
 use Rattle.areas.proofs.numbers.four_motion.Goals as goal
 
 pub returns : goal.returns

@@ -1,5 +1,4 @@
 -- `areas::numbers::settings_of` meets its contract.
-use borrow.Author.Rules.{rules}
 use Rattle.areas.proofs.numbers.settings_of.Goals as goal
 
 pub returns : goal.returns

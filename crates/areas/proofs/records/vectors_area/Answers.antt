@@ -5,7 +5,6 @@ use Rattle.basis.proofs.Signed.{of_bits_lem}
 use Rattle.record.specs.Zero.{zero_vector}
 use Rattle.areas.specs.Search.{vectors_area}
 use Rattle.areas.proofs.Places.{four_elements}
-use borrow.Author.Rules.{rules}
 use Rattle.areas.proofs.records.vectors_area.Goals as goal
 
 pub returns : goal.returns
@@ -22,4 +21,4 @@ returns c =
     let y2 = of_bits_lem _ v2.1.0.1 in
     let x3 = of_bits_lem _ v3.0.1 in
     let y3 = of_bits_lem _ v3.1.0.1 in
-    (λ i. x0 i ∷ y0 i ∷ x1 i ∷ y1 i ∷ x2 i ∷ y2 i ∷ x3 i ∷ y3 i ∷ []) ∙ ap vectors_area (four_elements c.args.t1 zero_vector c.well_formed.0.1.0.1)
+    (λ i. x0 i ∷ y0 i ∷ x1 i ∷ y1 i ∷ x2 i ∷ y2 i ∷ x3 i ∷ y3 i ∷ []) ∙ ap vectors_area (four_elements c.args.vs zero_vector c.well_formed.0.1.0.1)

@@ -3,7 +3,6 @@ use mathlib.Core.Path.{sym, ap, ◌∙◌}
 use Rattle.refusal.specs.declared.Reply.{Reply}
 use Rattle.refusal.specs.Number.{code_of}
 use Rattle.refusal.specs.Reply.{done}
-use borrow.Author.Rules.{rules}
 use Rattle.areas.proofs.records.write_activity.Goals as goal
 
 pub returns-in-Refused : goal.returns-in-Refused

@@ -6,7 +6,6 @@ use lib.IntN.{ℤ}
 use Rattle.refusal.specs.declared.Reply.{Reply}
 use Rattle.refusal.specs.Reply.{done}
 use Rattle.areas.specs.Whole.{RecordAreas, record_areas, record_areas_of}
-use borrow.Author.Rules.{rules}
 use Rattle.areas.proofs.records.write_record.Goals.{Start}
 use Rattle.areas.proofs.records.write_record.Goals as goal
 

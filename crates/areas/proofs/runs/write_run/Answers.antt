@@ -5,7 +5,6 @@ use mathlib.Core.Path.{sym, ap, ap₂, ◌∙◌}
 use Rattle.refusal.specs.declared.Reply.{Reply}
 use Rattle.refusal.specs.Reply.{done}
 use Rattle.areas.specs.Run.{run_numbers}
-use borrow.Author.Rules.{rules}
 use Rattle.areas.proofs.runs.write_run.Goals.{Start}
 use Rattle.areas.proofs.runs.write_run.Goals as goal
 

@@ -6,7 +6,6 @@ use Rattle.refusal.specs.declared.Reply.{Reply}
 use Rattle.refusal.specs.Number.{code_of}
 use Rattle.refusal.specs.Reply.{done}
 use Rattle.areas.specs.Run.{totals_numbers}
-use borrow.Author.Rules.{rules}
 use Rattle.areas.proofs.runs.write_totals.Goals.{Start}
 use Rattle.areas.proofs.runs.write_totals.Goals as goal
 

@@ -9,30 +9,29 @@ use Rattle.record.specs.declared.MotionVector.{MotionVector}
 use Rattle.record.specs.Zero.{zero_vector}
 use Rattle.areas.specs.Search.{vectors_area}
 use Rattle.areas.proofs.Places.{stored_all, four_elements}
-use borrow.Author.Rules.{rules}
 use Rattle.areas.proofs.vectors.fill_four.Goals.{After-vectors-4-1, Start}
 use Rattle.areas.proofs.vectors.fill_four.Goals as goal
 
 module _ (s : Start) where
   abbrev vector_at : ℕ → MotionVector
-  vector_at i = get_or s.args.t1 i zero_vector
+  vector_at i = get_or s.args.vs i zero_vector
 
   abbrev sum_at : ℕ → ℕ
-  sum_at i = get_or s.args.t2 i 0
+  sum_at i = get_or s.args.costs i 0
 
   -- vector i in its two places
   abbrev pair_at : ℕ → List ℤ → List ℤ
   pair_at i l = set (set l (2 * i) (vector_at i).x) (2 * i + 1) (vector_at i).y
 
-  vectors_are : pair_at 3 (pair_at 2 (pair_at 1 (pair_at 0 s.args.vectors.now))) ≡ vectors_area s.args.t1
+  vectors_are : pair_at 3 (pair_at 2 (pair_at 1 (pair_at 0 s.args.vectors.now))) ≡ vectors_area s.args.vs
   vectors_are =
       stored_all (vectors_area (vector_at 0 ∷ vector_at 1 ∷ vector_at 2 ∷ vector_at 3 ∷ [])) s.args.vectors.now s.requires.vectors_len
-      ∙ ap vectors_area (four_elements s.args.t1 zero_vector s.well_formed.0.1.0.1)
+      ∙ ap vectors_area (four_elements s.args.vs zero_vector s.well_formed.0.1.0.1)
 
-  sums_are : set (set (set (set s.args.sums.now 0 (sum_at 0)) 1 (sum_at 1)) 2 (sum_at 2)) 3 (sum_at 3) ≡ s.args.t2
+  sums_are : set (set (set (set s.args.sums.now 0 (sum_at 0)) 1 (sum_at 1)) 2 (sum_at 2)) 3 (sum_at 3) ≡ s.args.costs
   sums_are =
       stored_all (sum_at 0 ∷ sum_at 1 ∷ sum_at 2 ∷ sum_at 3 ∷ []) s.args.sums.now s.requires.sums_len
-      ∙ four_elements s.args.t2 0 s.well_formed.1.0.1.0.1
+      ∙ four_elements s.args.costs 0 s.well_formed.1.0.1.0.1
 
   -- the sums' area keeps its length
   after_one : length (set s.args.sums.now 0 (sum_at 0)) ≡ 4

@@ -4,7 +4,6 @@ use Rattle.refusal.specs.declared.Reply.{Reply}
 use Rattle.refusal.specs.Number.{code_of}
 use Rattle.refusal.specs.Reply.{done}
 use Rattle.areas.specs.Search.{vector_area}
-use borrow.Author.Rules.{rules}
 use Rattle.areas.proofs.vectors.write_chroma.Goals as goal
 
 pub returns-in-Refused : goal.returns-in-Refused

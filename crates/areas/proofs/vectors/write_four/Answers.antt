@@ -10,7 +10,6 @@ use Rattle.refusal.specs.Number.{code_of}
 use Rattle.refusal.specs.Reply.{done}
 use Rattle.areas.specs.Search.{four_areas_reply, vectors_area}
 use Rattle.areas.proofs.Replies.{areas_reply, areas-done}
-use borrow.Author.Rules.{rules}
 use Rattle.areas.proofs.vectors.write_four.Goals.{After-and_then-reply, In-Done, Start}
 use Rattle.areas.proofs.vectors.write_four.Goals as goal
 
@@ -38,7 +37,8 @@ long : (c : In-Done) → let a = c.args in (length a.vectors.now ≡ 8) × (leng
 long c = let a = c.args in areas-done a.found.reply (length a.vectors.now) 8 (length a.sums.now) 4 (sym (told c))
 
 pub fill_four-requires : goal.fill_four-requires
-fill_four-requires c = long (goal.at.fill_four-requires c).In-Done
+fill_four-requires c =
+    let l = long (goal.at.fill_four-requires c).In-Done in record { vectors_len = l.0; sums_len = l.1 }
 
 pub returns-in-Refused : goal.returns-in-Refused
 returns-in-Refused c =

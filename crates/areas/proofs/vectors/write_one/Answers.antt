@@ -12,7 +12,6 @@ use Rattle.refusal.specs.Reply.{done}
 use Rattle.areas.specs.Search.{one_areas_reply, vector_area}
 use Rattle.areas.proofs.Places.{stored_all}
 use Rattle.areas.proofs.Replies.{areas_reply, areas-done}
-use borrow.Author.Rules.{rules}
 use Rattle.areas.proofs.vectors.write_one.Goals.{After-and_then-reply, In-Done, Start}
 use Rattle.areas.proofs.vectors.write_one.Goals as goal
 

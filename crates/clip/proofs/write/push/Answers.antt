@@ -1,6 +1,5 @@
 -- `clip::write::push` meets its contract.
 use mathlib.Core.Path.{sym}
-use borrow.Author.Rules.{rules}
 use borrow.Author.Tests.{lt-ltb, le-ltb}
 use Rattle.basis.proofs.Case.{then, else}
 use Rattle.clip.specs.ToldPush.{pushed}

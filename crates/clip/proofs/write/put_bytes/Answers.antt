@@ -1,8 +1,7 @@
 -- `clip::write::put_bytes` meets its contract: after i turns the first i bytes are pushed.
-use Prim.Native.Nat.{◌-◌, ◌≤◌}
 use native.Mathlib.Omega.{arith}
-use mathlib.Core.Path.{◌≡◌, refl, ap, ◌∙◌}
-use lib.ListN.{length, take, get_or}
+use mathlib.Core.Path.{refl, ap, ◌∙◌}
+use lib.ListN.{get_or}
 use lib.Seq.{take_all}
 use Rattle.clip.specs.declared.Text.{Text}
 use Rattle.clip.specs.ToldPush.{text_in, pushed, pushes}

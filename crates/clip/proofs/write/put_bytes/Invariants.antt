@@ -1,12 +1,8 @@
 -- `clip::write::put_bytes` meets its contract: after i turns the first i bytes are pushed.
 use Prim.Native.Nat.{◌-◌, ◌≤◌}
-use native.Mathlib.Omega.{arith}
-use mathlib.Core.Path.{◌≡◌, refl, ap, ◌∙◌}
-use lib.ListN.{length, take, get_or}
-use lib.Seq.{take_all}
-use Rattle.clip.specs.declared.Text.{Text}
-use Rattle.clip.specs.ToldPush.{text_in, pushed, pushes}
-use Rattle.clip.proofs.Texts.{pushes_more}
+use mathlib.Core.Path.{◌≡◌}
+use lib.ListN.{length, take}
+use Rattle.clip.specs.ToldPush.{text_in, pushes}
 use Rattle.clip.proofs.write.put_bytes.Given as goal
 
 abbrev pub invariant-loop-i : goal.invariant-loop-i

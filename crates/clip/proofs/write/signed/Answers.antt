@@ -6,7 +6,6 @@ use lib.Signed.{lt_z}
 use mir.Syntax.{w32}
 use mir.Val.{to_z, of_z}
 use mir.ValLaws.{to_z-of_z}
-use borrow.Author.Rules.{rules}
 use Rattle.clip.specs.declared.Text.{Text}
 use Rattle.clip.specs.Decimal.{decimal}
 use Rattle.clip.specs.ToldPush.{text_in, pushed, pushes}

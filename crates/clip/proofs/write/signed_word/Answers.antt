@@ -3,7 +3,6 @@ use mathlib.Core.Path.{ap, ◌∙◌}
 use mir.Syntax.{w32}
 use mir.Val.{to_z, of_z}
 use mir.ValLaws.{to_z-of_z}
-use borrow.Author.Rules.{rules}
 use Rattle.clip.specs.declared.Text.{Text}
 use Rattle.clip.specs.Decimal.{decimal_z}
 use Rattle.clip.specs.ToldPush.{text_in, pushes}

@@ -1,6 +1,5 @@
 -- `clip::write::vector_words` meets its contract.
 use mathlib.Core.List.{[], ◌∷◌}
-use borrow.Author.Rules.{rules}
 use Rattle.basis.proofs.Signed.{of_bits_lem}
 use Rattle.clip.specs.Decimal.{decimal_z}
 use Rattle.clip.specs.ToldPush.{text_in}

@@ -1,6 +1,5 @@
 -- `clip::write::word` meets its contract.
 use mathlib.Core.Path.{ap, ◌∙◌}
-use borrow.Author.Rules.{rules}
 use Rattle.clip.specs.declared.Text.{Text}
 use Rattle.clip.specs.Decimal.{decimal}
 use Rattle.clip.specs.ToldPush.{text_in, pushes}

@@ -9,7 +9,6 @@ use Rattle.predicting.specs.Chroma.{chroma_in}
 use Rattle.areas.specs.Numbers.{vector_of}
 use Rattle.areas.specs.Search.{vector_area}
 use Rattle.hencouch.proofs.Runs.{numbered}
-use borrow.Author.Rules.{rules}
 use Rattle.hencouch.proofs.chroma.hencouch_chroma_vector.Goals.{After-vector_of}
 use Rattle.hencouch.proofs.chroma.hencouch_chroma_vector.Goals as goal
 

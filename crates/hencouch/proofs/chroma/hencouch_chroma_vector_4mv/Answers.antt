@@ -4,7 +4,6 @@ use Rattle.prediction.specs.declared.ChromaVector.{ChromaVector}
 use Rattle.predicting.specs.Chroma.{chroma_in}
 use Rattle.areas.specs.Search.{vector_area}
 use Rattle.hencouch.proofs.Runs.{numbered}
-use borrow.Author.Rules.{rules}
 use Rattle.hencouch.proofs.chroma.hencouch_chroma_vector_4mv.Goals as goal
 
 pub returns : goal.returns

@@ -9,7 +9,6 @@ use Rattle.refusal.specs.Reply.{done}
 use Rattle.plane.specs.declared.Point.{Point}
 use Rattle.plane.specs.Plane.{plane_of, copied_block, geometry_of}
 use Rattle.areas.specs.Numbers.{point_of}
-use borrow.Author.Rules.{rules}
 use Rattle.hencouch.proofs.copied.hencouch_copy_block.Goals.{After-point_of-at, Start}
 use Rattle.hencouch.proofs.copied.hencouch_copy_block.Goals as goal
 

@@ -8,7 +8,6 @@ use Rattle.plane.specs.Plane.{plane_of, sample_at, geometry_of}
 use Rattle.plane.specs.Reference.{reference_reply, fetched}
 use Rattle.hencouch.specs.ToldFetched.{fetched_code, fetched_in}
 use Rattle.hencouch.proofs.Fetching.{code_of_lem, left_by}
-use borrow.Author.Rules.{rules}
 use Rattle.hencouch.proofs.copied.hencouch_fetch_clamped.Goals as goal
 
 pub returns : goal.returns

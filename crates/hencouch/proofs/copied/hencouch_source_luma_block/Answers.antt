@@ -5,7 +5,6 @@ use Rattle.refusal.specs.Number.{code_of}
 use Rattle.refusal.specs.Reply.{done}
 use Rattle.plane.specs.Source.{source_luma}
 use Rattle.areas.specs.Numbers.{size_of, macroblock_at}
-use borrow.Author.Rules.{rules}
 use Rattle.hencouch.proofs.copied.hencouch_source_luma_block.Goals as goal
 
 pub returns : goal.returns

@@ -2,7 +2,6 @@
 use mathlib.Core.Path.{sym, ap, ◌∙◌}
 use Rattle.plane.specs.declared.Fetched.{Fetched}
 use Rattle.hencouch.specs.ToldFetched.{fetched_code, fetched_in}
-use borrow.Author.Rules.{rules}
 use Rattle.hencouch.proofs.copied.write_sample.Goals as goal
 
 pub returns-in-Refused : goal.returns-in-Refused

@@ -3,7 +3,6 @@ use mathlib.Core.Path.{ap, ◌∙◌}
 use Rattle.refusal.specs.Number.{code_of}
 use Rattle.refusal.specs.Reply.{done}
 use Rattle.macroblock.specs.declared.Activity.{Activity}
-use borrow.Author.Rules.{rules}
 use Rattle.hencouch.proofs.inter.hencouch_intra_activity.Goals as goal
 
 pub returns : goal.returns

@@ -8,7 +8,6 @@ use Rattle.refusal.specs.Reply.{done}
 use Rattle.plane.specs.Samples.{samples}
 use Rattle.coding.specs.Residual.{source_of, residual_of}
 use Rattle.areas.specs.Numbers.{size_of, macroblock_at}
-use borrow.Author.Rules.{rules}
 use Rattle.hencouch.proofs.inter.hencouch_macroblock_residual.Goals.{Start}
 use Rattle.hencouch.proofs.inter.hencouch_macroblock_residual.Goals as goal
 

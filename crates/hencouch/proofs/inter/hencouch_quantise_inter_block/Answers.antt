@@ -11,7 +11,6 @@ use Rattle.reader.specs.Handed.{areas}
 use Rattle.coding.specs.Coding.{Quantising, quantising_of, block_areas, count_of}
 use Rattle.coding.specs.Reply.{coding_reply, block_events}
 use Rattle.refusal.proofs.Replies.{done_again}
-use borrow.Author.Rules.{rules}
 use Rattle.areas.specs.Numbers.{is_set}
 use Rattle.hencouch.proofs.inter.hencouch_quantise_inter_block.Goals.{Start}
 use Rattle.hencouch.proofs.inter.hencouch_quantise_inter_block.Goals as goal

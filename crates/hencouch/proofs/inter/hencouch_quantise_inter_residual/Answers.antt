@@ -12,7 +12,6 @@ use Rattle.reader.specs.Handed.{areas}
 use Rattle.coding.specs.Coding.{Quantising, quantising_of, areas_of, counts_of}
 use Rattle.coding.specs.Reply.{coding_reply, residual_events}
 use Rattle.refusal.proofs.Replies.{done_again}
-use borrow.Author.Rules.{rules}
 use Rattle.areas.specs.Numbers.{is_set}
 use Rattle.hencouch.proofs.inter.hencouch_quantise_inter_residual.Goals.{Start}
 use Rattle.hencouch.proofs.inter.hencouch_quantise_inter_residual.Goals as goal

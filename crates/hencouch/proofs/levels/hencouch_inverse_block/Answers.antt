@@ -4,7 +4,6 @@ use Rattle.refusal.specs.declared.Reply.{Reply}
 use Rattle.refusal.specs.Number.{code_of}
 use Rattle.refusal.specs.Reply.{done}
 use Rattle.quantise.specs.Block.{second_inverse, block_inverse}
-use borrow.Author.Rules.{rules}
 use Rattle.hencouch.proofs.levels.hencouch_inverse_block.Goals as goal
 
 pub returns : goal.returns

@@ -9,7 +9,6 @@ use Rattle.scan.specs.declared.Events.{Events}
 use Rattle.scan.specs.Event.{events_of, lasts_area, runs_area, levels_area}
 use Rattle.scan.specs.Reply.{events_reply}
 use Rattle.refusal.proofs.Replies.{done_again}
-use borrow.Author.Rules.{rules}
 use Rattle.hencouch.proofs.levels.hencouch_levels_to_events.Goals.{After-levels_to_events-told, Start}
 use Rattle.hencouch.proofs.levels.hencouch_levels_to_events.Goals as goal
 

@@ -8,7 +8,6 @@ use Rattle.refusal.specs.declared.Reply.{Reply}
 use Rattle.refusal.specs.Number.{code_of}
 use Rattle.refusal.specs.Reply.{done}
 use Rattle.quantise.specs.Block.{block_levels, quantise_reply}
-use borrow.Author.Rules.{rules}
 use Rattle.hencouch.proofs.levels.hencouch_quantise_block.Goals.{Start}
 use Rattle.hencouch.proofs.levels.hencouch_quantise_block.Goals as goal
 

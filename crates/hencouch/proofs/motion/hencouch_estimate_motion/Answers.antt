@@ -9,7 +9,6 @@ use Rattle.refusal.specs.Number.{code_of}
 use Rattle.refusal.specs.Reply.{done}
 use Rattle.search.specs.declared.Estimated.{Estimated}
 use Rattle.areas.specs.Search.{one_areas_reply, vector_area}
-use borrow.Author.Rules.{rules}
 use Rattle.hencouch.proofs.motion.hencouch_estimate_motion.Goals.{Start}
 use Rattle.hencouch.proofs.motion.hencouch_estimate_motion.Goals as goal
 

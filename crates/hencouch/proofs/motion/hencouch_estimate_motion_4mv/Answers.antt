@@ -16,7 +16,6 @@ use Rattle.search.specs.Estimate.{estimate_four}
 use Rattle.plane.specs.Plane.{geometry_of}
 use Rattle.areas.specs.Numbers.{vector_of, size_of, macroblock_at}
 use Rattle.areas.specs.Search.{four_areas_reply, vectors_area}
-use borrow.Author.Rules.{rules}
 use Rattle.hencouch.proofs.motion.hencouch_estimate_motion_4mv.Goals.{After-vector_of-seed, Start}
 use Rattle.hencouch.proofs.motion.hencouch_estimate_motion_4mv.Goals as goal
 

@@ -15,7 +15,6 @@ use Rattle.prediction.specs.Luma.{mode_of, predicted_block}
 use Rattle.plane.specs.Corner.{block_at}
 use Rattle.areas.specs.Numbers.{vector_of}
 use Rattle.predicting.specs.Luma.{luma_block_reply}
-use borrow.Author.Rules.{rules}
 use Rattle.hencouch.proofs.predicted.hencouch_predict_luma_block.Goals.{After-site_of-site, After-vector_of-vector, Start}
 use Rattle.hencouch.proofs.predicted.hencouch_predict_luma_block.Goals as goal
 

@@ -16,7 +16,6 @@ use Rattle.prediction.specs.Luma.{mode_of}
 use Rattle.prediction.specs.Macroblock.{macroblock_luma}
 use Rattle.areas.specs.Numbers.{vector_of, point_of}
 use Rattle.predicting.specs.Luma.{luma_macroblock_reply}
-use borrow.Author.Rules.{rules}
 use Rattle.hencouch.proofs.predicted.hencouch_predict_luma_macroblock.Goals.{After-point_of-corner, After-vector_of-vector, Start}
 use Rattle.hencouch.proofs.predicted.hencouch_predict_luma_macroblock.Goals as goal
 

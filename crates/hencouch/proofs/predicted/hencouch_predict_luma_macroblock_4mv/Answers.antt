@@ -15,14 +15,8 @@ use Rattle.prediction.specs.Luma.{mode_of}
 use Rattle.prediction.specs.Macroblock.{macroblock_luma}
 use Rattle.areas.specs.Numbers.{point_of}
 use Rattle.predicting.specs.Luma.{luma_macroblock_reply}
-use borrow.Author.Rules.{rules}
-use Rattle.hencouch.proofs.predicted.hencouch_predict_luma_macroblock_4mv.Statement.{
 use Rattle.hencouch.proofs.predicted.hencouch_predict_luma_macroblock_4mv.Goals.{After-point_of-corner, Start}
 use Rattle.hencouch.proofs.predicted.hencouch_predict_luma_macroblock_4mv.Goals as goal
-
-  statement,
-}
-use Rattle.hencouch.proofs.predicted.hencouch_predict_luma_macroblock_4mv.Tie as tie
 
 module _ (s : Start) where
   -- the reply and the samples, for a motion and a corner

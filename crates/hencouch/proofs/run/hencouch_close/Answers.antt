@@ -4,7 +4,6 @@ use Rattle.picture.specs.declared.Closed.{Closed}
 use Rattle.picture.specs.Run.{close_of}
 use Rattle.areas.specs.Run.{totals_numbers}
 use Rattle.hencouch.proofs.Runs.{numbered}
-use borrow.Author.Rules.{rules}
 use Rattle.hencouch.proofs.run.hencouch_close.Goals as goal
 
 pub returns : goal.returns

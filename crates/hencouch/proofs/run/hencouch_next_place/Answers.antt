@@ -2,7 +2,6 @@
 use mathlib.Core.Path.{refl, ap, ◌∙◌}
 use Rattle.picture.specs.Run.{next_place}
 use Rattle.areas.specs.Run.{place_numbers}
-use borrow.Author.Rules.{rules}
 use Rattle.hencouch.proofs.run.hencouch_next_place.Goals as goal
 
 pub returns : goal.returns

@@ -8,7 +8,6 @@ use Rattle.plane.specs.Plane.{geometry_of}
 use Rattle.areas.specs.Numbers.{size_of, macroblock_settings}
 use Rattle.areas.specs.Whole.{RecordAreas, record_areas}
 use Rattle.hencouch.proofs.Runs.{stepped_out}
-use borrow.Author.Rules.{rules}
 use Rattle.hencouch.proofs.run.hencouch_step.Goals.{Start}
 use Rattle.hencouch.proofs.run.hencouch_step.Goals as goal
 

@@ -8,7 +8,6 @@ use Rattle.picture.specs.Run.{next_place, StepAnswer, predicted_step_of}
 use Rattle.areas.specs.Numbers.{size_of, macroblock_settings, reference_geometry}
 use Rattle.areas.specs.Whole.{RecordAreas, record_areas}
 use Rattle.hencouch.proofs.Runs.{stepped_out}
-use borrow.Author.Rules.{rules}
 use Rattle.hencouch.proofs.run.hencouch_step_predicted.Goals.{Start}
 use Rattle.hencouch.proofs.run.hencouch_step_predicted.Goals as goal
 

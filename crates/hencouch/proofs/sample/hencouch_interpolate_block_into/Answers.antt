@@ -15,7 +15,6 @@ use Rattle.plane.specs.Reference.{block_reply}
 use Rattle.half_sample.specs.Block.{half_block}
 use Rattle.plane.specs.Corner.{block_at}
 use Rattle.areas.specs.Numbers.{vector_of}
-use borrow.Author.Rules.{rules}
 use Rattle.hencouch.proofs.sample.hencouch_interpolate_block_into.Goals.{After-site_of-site, After-vector_of-vector, Start}
 use Rattle.hencouch.proofs.sample.hencouch_interpolate_block_into.Goals as goal
 

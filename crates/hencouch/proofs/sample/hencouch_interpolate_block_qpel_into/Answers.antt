@@ -14,7 +14,6 @@ use Rattle.plane.specs.Plane.{plane_of, geometry_of}
 use Rattle.quarter_sample.specs.Block.{quarter_block, quarter_reply}
 use Rattle.plane.specs.Corner.{block_at}
 use Rattle.areas.specs.Numbers.{vector_of}
-use borrow.Author.Rules.{rules}
 use Rattle.hencouch.proofs.sample.hencouch_interpolate_block_qpel_into.Goals.{After-site_of-site, After-vector_of-vector, Start}
 use Rattle.hencouch.proofs.sample.hencouch_interpolate_block_qpel_into.Goals as goal
 

@@ -3,7 +3,6 @@ use Prim.Native.Nat.{ℕ, ◌%◌}
 use mathlib.Core.Bool.{Bool}
 use mathlib.Core.Path.{refl, ap₂, ◌∙◌}
 use Rattle.half_sample.specs.Average.{pixel_of}
-use borrow.Author.Rules.{rules}
 use Rattle.hencouch.proofs.sample.hencouch_interpolate_pixel.Goals.{Start}
 use Rattle.hencouch.proofs.sample.hencouch_interpolate_pixel.Goals as goal
 
@@ -12,6 +11,6 @@ pixelFor s across down = let a = s.args in pixel_of a.a a.b a.c a.d across down 
 
 pub returns : goal.returns
 returns c = record {
-      value = refl;
-      sample_after = c.interpolate_pixel.ensures ∙ ap₂ (pixelFor (goal.at.returns c).Start) c.is_set-across.ensures c.is_set-down.ensures;
-    }
+  value = refl;
+  sample_after = c.interpolate_pixel.ensures ∙ ap₂ (pixelFor (goal.at.returns c).Start) c.is_set-across.ensures c.is_set-down.ensures;
+}

@@ -6,7 +6,6 @@ use mir.ValLaws.{to_z-of_z}
 use Rattle.half_sample.specs.declared.HalfPel.{HalfPel}
 use Rattle.half_sample.specs.Split.{split_half}
 use Rattle.areas.specs.Numbers.{flag_of}
-use borrow.Author.Rules.{rules}
 use Rattle.hencouch.proofs.sample.hencouch_split_half_pel.Goals as goal
 
 pub returns : goal.returns

@@ -5,7 +5,6 @@ use mir.Syntax.{w32}
 use mir.ValLaws.{to_z-of_z}
 use Rattle.quarter_sample.specs.declared.QuarterPel.{QuarterPel}
 use Rattle.quarter_sample.specs.Split.{split_quarter}
-use borrow.Author.Rules.{rules}
 use Rattle.hencouch.proofs.sample.hencouch_split_quarter_pel.Goals as goal
 
 pub returns : goal.returns

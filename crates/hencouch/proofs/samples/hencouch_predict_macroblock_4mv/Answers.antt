@@ -11,7 +11,6 @@ use Rattle.prediction.specs.Planes.{planes_of, lengths_in}
 use Rattle.prediction.specs.Prediction.{macroblock_prediction}
 use Rattle.predicting.specs.Samples.{macroblock_samples_reply}
 use Rattle.areas.specs.Numbers.{macroblock_at}
-use borrow.Author.Rules.{rules}
 use Rattle.hencouch.proofs.samples.hencouch_predict_macroblock_4mv.Goals.{Start}
 use Rattle.hencouch.proofs.samples.hencouch_predict_macroblock_4mv.Goals as goal
 

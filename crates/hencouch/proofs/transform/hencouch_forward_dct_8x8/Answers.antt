@@ -4,7 +4,6 @@ use Rattle.refusal.specs.declared.Reply.{Reply}
 use Rattle.refusal.specs.Number.{code_of}
 use Rattle.refusal.specs.Reply.{done}
 use Rattle.fdct.specs.Block.{coefficients}
-use borrow.Author.Rules.{rules}
 use Rattle.hencouch.proofs.transform.hencouch_forward_dct_8x8.Goals as goal
 
 pub returns : goal.returns

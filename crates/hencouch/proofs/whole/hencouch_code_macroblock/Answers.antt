@@ -7,7 +7,6 @@ use Rattle.plane.specs.Plane.{geometry_of}
 use Rattle.areas.specs.Numbers.{size_of, macroblock_at, macroblock_settings}
 use Rattle.areas.specs.Whole.{RecordAreas, record_areas}
 use Rattle.hencouch.proofs.Records.{record_laid_out}
-use borrow.Author.Rules.{rules}
 use Rattle.hencouch.proofs.whole.hencouch_code_macroblock.Goals.{Start}
 use Rattle.hencouch.proofs.whole.hencouch_code_macroblock.Goals as goal
 

@@ -7,7 +7,6 @@ use Rattle.macroblock.specs.Predicted.{PredictedRequest, predicted_request, pred
 use Rattle.areas.specs.Numbers.{size_of, macroblock_at, macroblock_settings, reference_geometry}
 use Rattle.areas.specs.Whole.{RecordAreas, record_areas}
 use Rattle.hencouch.proofs.Records.{record_laid_out}
-use borrow.Author.Rules.{rules}
 use Rattle.hencouch.proofs.whole.hencouch_code_predicted_macroblock.Goals.{Start}
 use Rattle.hencouch.proofs.whole.hencouch_code_predicted_macroblock.Goals as goal
 

@@ -6,7 +6,6 @@ use lib.IntN.{pos}
 use lib.ListN.{length, get_or, take, drop, length-take, length-drop}
 use Rattle.basis.proofs.Slices.{put_two}
 use Rattle.plane.proofs.Rows.{straight, past_last}
-use borrow.Author.Rules.{rules}
 use Rattle.plane.proofs.copy.copy_from.Goals as goal
 
 pub returns-then-out-inside : goal.returns-then-out-inside

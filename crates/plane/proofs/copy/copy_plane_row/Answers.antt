@@ -11,7 +11,6 @@ use Rattle.basis.proofs.Signed.{of_bits_lem}
 use Rattle.plane.specs.Plane.{Plane, plane_of, clamp_to, copied, sample_at}
 use Rattle.plane.proofs.Inside.{row_in_plane}
 use Rattle.plane.proofs.Rows.{in_row}
-use borrow.Author.Rules.{rules}
 use Rattle.plane.proofs.copy.copy_plane_row.Goals.{After-clamp_coordinate, Start}
 use Rattle.plane.proofs.copy.copy_plane_row.Goals as goal
 

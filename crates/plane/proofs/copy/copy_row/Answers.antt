@@ -14,7 +14,6 @@ use Rattle.basis.proofs.Slices.{put_two}
 use Rattle.plane.specs.Plane.{clamp_to}
 use Rattle.plane.specs.ToldHeld.{clamped_in}
 use Rattle.plane.proofs.Rows.{count_before, before_first}
-use borrow.Author.Rules.{rules}
 use Rattle.plane.proofs.copy.copy_row.Goals.{Start}
 use Rattle.plane.proofs.copy.copy_row.Goals as goal
 

@@ -1,5 +1,4 @@
 -- `plane::copy::copy_rows` meets its contract.
-use Prim.Native.Nat.{◌+◌, ◌≤◌}
 use native.Mathlib.Omega.{arith}
 use mathlib.Core.Bool.{true}
 use mathlib.Core.Path.{◌≡◌, sym, ap, ◌∙◌}
@@ -12,7 +11,6 @@ use Rattle.basis.proofs.Parts.{above-pos}
 use Rattle.basis.proofs.Signed.{of_bits_lem, cast_read, cast_value}
 use Rattle.plane.specs.Plane.{geometry_of, plane_of, copied, columns_inside}
 use Rattle.plane.proofs.Inside.{inside_starts, inside_ends}
-use borrow.Author.Rules.{rules}
 use Rattle.plane.proofs.copy.copy_rows.Goals.{After-struct_told-then-columns_inside-1}
 use Rattle.plane.proofs.copy.copy_rows.Goals as goal
 

@@ -1,15 +1,10 @@
 -- `plane::copy::edge_rows` meets its contract.
-use Prim.Native.Nat.{ℕ, ◌+◌, ◌-◌, ◌*◌, ◌≤◌}
+use Prim.Native.Nat.{ℕ, ◌+◌, ◌*◌, ◌≤◌}
 use native.Mathlib.Omega.{arith}
-use mathlib.Core.Path.{◌≡◌, refl, sym, ap, ◌∙◌}
-use lib.ListN.{length, length-take, length-drop}
-use Rattle.basis.specs.Lists.{tabulate}
-use Rattle.plane.specs.declared.Geometry.{Geometry}
-use Rattle.plane.specs.declared.Point.{Point}
-use Rattle.plane.specs.Plane.{plane_of, copied}
-use mathlib.Core.List.{List}
+use mathlib.Core.Path.{refl, sym, ap, ◌∙◌}
+use lib.ListN.{length-take, length-drop}
 use Rattle.basis.proofs.Bounds.{row_before}
-use Rattle.basis.proofs.Lists.{length-tabulate, laid, laid_none, laid_put, laid_end}
+use Rattle.basis.proofs.Lists.{length-tabulate, laid_none, laid_put, laid_end}
 use Rattle.plane.proofs.copy.edge_rows.Invariants.{block_row}
 use Rattle.plane.proofs.copy.edge_rows.Goals.{In-loop-j}
 use Rattle.plane.proofs.copy.edge_rows.Goals as goal
@@ -40,15 +35,14 @@ pub copy_plane_row-requires : goal.copy_plane_row-requires
 copy_plane_row-requires c = c.requires.0
 
 pub loop-j-preserved : goal.loop-j-preserved
-loop-j-preserved c =
-    (
-      omega arith,
-      omega arith,
-      laid_put _ _ (λ j. length-tabulate _ _) c.loop-j.j c.args.out.now c.loop-j.out _ c.loop-j.invariant.2
-          (c.copy_plane_row.ensures
-          ∙ ap (λ (k : ℕ). block_row c.args.samples.now c.args.geometry c.args.at k c.loop-j.j)
-          (simp (length-take, length-drop) (omega (arith, inside (goal.at.loop-j-preserved c).In-loop-j)))),
-    )
+loop-j-preserved c = (
+  omega arith,
+  omega arith,
+  laid_put _ _ (λ j. length-tabulate _ _) c.loop-j.j c.args.out.now c.loop-j.out _ c.loop-j.invariant.2
+      (c.copy_plane_row.ensures
+      ∙ ap (λ (k : ℕ). block_row c.args.samples.now c.args.geometry c.args.at k c.loop-j.j)
+      (simp (length-take, length-drop) (omega (arith, inside (goal.at.loop-j-preserved c).In-loop-j)))),
+)
 
 pub returns : goal.returns
 returns c = laid_end _ _ (λ j. length-tabulate _ _) _ _ _ _ c.loop-j.invariant.2 (omega arith) (omega arith)

@@ -1,10 +1,8 @@
 -- `plane::copy::gather` meets its contract.
-use Prim.Native.Nat.{◌-◌, ◌≤◌}
 use native.Mathlib.Omega.{arith}
-use mathlib.Core.Path.{◌≡◌, refl, sym}
-use lib.ListN.{length, length-set}
-use Rattle.basis.proofs.Lists.{filled, filled_none, filled_set, filled_end}
-use Rattle.plane.specs.ToldHeld.{gathered}
+use mathlib.Core.Path.{refl, sym}
+use lib.ListN.{length-set}
+use Rattle.basis.proofs.Lists.{filled_none, filled_set, filled_end}
 use Rattle.plane.proofs.copy.gather.Goals as goal
 
 pub loop-i-init : goal.loop-i-init

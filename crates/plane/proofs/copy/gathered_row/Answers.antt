@@ -10,7 +10,6 @@ use Rattle.basis.proofs.Slices.{part_length}
 use Rattle.plane.specs.Plane.{Plane, plane_of, clamp_to, copied}
 use Rattle.plane.proofs.Inside.{row_in_plane}
 use Rattle.plane.proofs.Rows.{in_row, at_column, columns_in}
-use borrow.Author.Rules.{rules}
 use Rattle.plane.proofs.copy.gathered_row.Goals.{After-clamp_coordinate, Start}
 use Rattle.plane.proofs.copy.gathered_row.Goals as goal
 

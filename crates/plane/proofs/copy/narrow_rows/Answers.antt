@@ -2,7 +2,6 @@
 use Prim.Native.Nat.{ℕ, ◌*◌}
 use mathlib.Core.List.{List}
 use mathlib.Core.Path.{◌≡◌, sym, ap, ap₂, ◌∙◌}
-use native.Mathlib.Omega.{arith}
 use lib.IntN.{ℤ}
 use mir.Syntax.{w32}
 use mir.Val.{to_z, of_z}
@@ -13,7 +12,6 @@ use Rattle.basis.proofs.Signed.{of_bits_lem}
 use Rattle.plane.specs.Plane.{plane_of, copied_block}
 use Rattle.plane.specs.ToldHeld.{column_at}
 use Rattle.plane.proofs.Front.{front_told, front_length, front_fits}
-use borrow.Author.Rules.{rules}
 use Rattle.plane.proofs.copy.narrow_rows.Goals.{After-set_columns, Start}
 use Rattle.plane.proofs.copy.narrow_rows.Goals as goal
 

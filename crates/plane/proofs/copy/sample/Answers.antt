@@ -7,7 +7,6 @@ use mir.Syntax.{w32}
 use mir.ValLaws.{to_z-of_z}
 use Rattle.plane.specs.Plane.{plane_of, sample_at}
 use Rattle.plane.proofs.Inside.{in_plane}
-use borrow.Author.Rules.{rules}
 use Rattle.plane.proofs.copy.sample.Goals.{After-clamp_coordinate-row}
 use Rattle.plane.proofs.copy.sample.Goals as goal
 

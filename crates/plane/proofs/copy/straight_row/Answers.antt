@@ -9,7 +9,6 @@ use Rattle.basis.proofs.Signed.{of_bits_lem}
 use Rattle.basis.proofs.Slices.{part_length}
 use Rattle.plane.specs.Plane.{Plane, plane_of, clamp_to, copied}
 use Rattle.plane.proofs.Rows.{inside_row, row_end}
-use borrow.Author.Rules.{rules}
 use Rattle.plane.proofs.copy.straight_row.Goals.{After-clamp_coordinate, Start}
 use Rattle.plane.proofs.copy.straight_row.Goals as goal
 

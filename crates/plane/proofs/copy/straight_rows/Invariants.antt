@@ -1,16 +1,14 @@
 -- `plane::copy::straight_rows` meets its contract.
-use Prim.Native.Nat.{ℕ, ◌+◌, ◌-◌, ◌*◌, ◌≤◌}
-use native.Mathlib.Omega.{arith}
-use mathlib.Core.Path.{◌≡◌, refl, sym, ap, ◌∙◌}
+use Prim.Native.Nat.{ℕ, ◌≤◌}
+use mathlib.Core.Path.{◌≡◌}
 use lib.IntN.{pos}
-use lib.ListN.{length, length-take, length-drop}
+use lib.ListN.{length}
 use Rattle.basis.specs.Lists.{tabulate}
 use Rattle.plane.specs.declared.Geometry.{Geometry}
 use Rattle.plane.specs.declared.Point.{Point}
 use Rattle.plane.specs.Plane.{plane_of, copied}
 use mathlib.Core.List.{List}
-use Rattle.basis.proofs.Bounds.{row_before}
-use Rattle.basis.proofs.Lists.{length-tabulate, laid, laid_none, laid_put, laid_end}
+use Rattle.basis.proofs.Lists.{laid}
 use Rattle.plane.proofs.copy.straight_rows.Given as goal
 
 -- row j of the block

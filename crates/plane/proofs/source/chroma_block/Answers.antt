@@ -14,7 +14,6 @@ use Rattle.plane.specs.Source.{packed, source_chroma_reply}
 use Rattle.plane.specs.Reference.{length_reply}
 use Rattle.plane.proofs.Ready.{length_is}
 use Rattle.plane.proofs.ReadySource.{chroma_ready, chroma_held, column_small, row_small}
-use borrow.Author.Rules.{rules}
 use Rattle.plane.proofs.source.chroma_block.Goals.{After-and_then-reply, In-Done, Start}
 use Rattle.plane.proofs.source.chroma_block.Goals as goal
 
@@ -45,9 +44,9 @@ copy_part-requires c =
 
 pub returns-in-Refused : goal.returns-in-Refused
 returns-in-Refused c = record {
-      value = sym c.in-Refused.is ∙ answered (goal.at.returns-in-Refused c).After-and_then-reply;
-      out_after = refl;
-    }
+  value = sym c.in-Refused.is ∙ answered (goal.at.returns-in-Refused c).After-and_then-reply;
+  out_after = refl;
+}
 
 pub returns-in-Done : goal.returns-in-Done
 returns-in-Done c =

@@ -3,7 +3,6 @@ use mathlib.Core.Path.{ap, ◌∙◌}
 use Rattle.plane.specs.declared.SourceSize.{SourceSize}
 use Rattle.plane.specs.Source.{holds, source_chroma_reply}
 use Rattle.plane.proofs.ReadySource.{planes_judged}
-use borrow.Author.Rules.{rules}
 use Rattle.plane.proofs.source.chroma_reply.Goals as goal
 
 pub returns : goal.returns

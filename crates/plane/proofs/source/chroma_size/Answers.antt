@@ -1,5 +1,4 @@
 -- `plane::source::chroma_size` meets its contract.
-use borrow.Author.Rules.{rules}
 use Rattle.plane.proofs.source.chroma_size.Goals as goal
 
 pub returns : goal.returns

@@ -10,7 +10,6 @@ use Rattle.basis.specs.Lists.{raster}
 use Rattle.basis.proofs.Bounds.{product_le}
 use Rattle.plane.specs.Plane.{copied}
 use Rattle.plane.specs.Source.{packed}
-use borrow.Author.Rules.{rules}
 use Rattle.plane.proofs.source.copy_part.Goals.{Start}
 use Rattle.plane.proofs.source.copy_part.Goals as goal
 

@@ -1,6 +1,5 @@
 -- `plane::source::holds` meets its contract.
 use Rattle.plane.proofs.ReadySource.{holds_none, holds_some}
-use borrow.Author.Rules.{rules}
 use Rattle.plane.proofs.source.holds.Goals as goal
 
 pub returns-then-size-eq0 : goal.returns-then-size-eq0

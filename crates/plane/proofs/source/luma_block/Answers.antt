@@ -10,7 +10,6 @@ use Rattle.plane.specs.Source.{source_luma_reply}
 use Rattle.plane.specs.Reference.{length_reply}
 use Rattle.plane.proofs.Ready.{length_is}
 use Rattle.plane.proofs.ReadySource.{luma_ready, luma_held, column_small, row_small}
-use borrow.Author.Rules.{rules}
 use Rattle.plane.proofs.source.luma_block.Goals.{After-and_then-reply, In-Done, Start}
 use Rattle.plane.proofs.source.luma_block.Goals as goal
 
@@ -41,12 +40,12 @@ copy_part-requires c =
 
 pub returns-in-Refused : goal.returns-in-Refused
 returns-in-Refused c = record {
-      value = sym c.in-Refused.is ∙ answered (goal.at.returns-in-Refused c).After-and_then-reply;
-      out_after = refl;
-    }
+  value = sym c.in-Refused.is ∙ answered (goal.at.returns-in-Refused c).After-and_then-reply;
+  out_after = refl;
+}
 
 pub returns-in-Done : goal.returns-in-Done
 returns-in-Done c = record {
-      value = sym (ready (goal.at.returns-in-Done c).In-Done);
-      out_after = c.copy_part.ensures;
-    }
+  value = sym (ready (goal.at.returns-in-Done c).In-Done);
+  out_after = c.copy_part.ensures;
+}

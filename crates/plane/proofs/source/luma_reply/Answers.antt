@@ -1,7 +1,6 @@
 -- `plane::source::luma_reply` meets its contract.
 use Rattle.plane.specs.Source.{source_luma_reply}
 use Rattle.plane.proofs.ReadySource.{planes_judged}
-use borrow.Author.Rules.{rules}
 use Rattle.plane.proofs.source.luma_reply.Goals as goal
 
 pub returns : goal.returns

@@ -1,6 +1,5 @@
 -- `plane::source::place_reply` meets its contract.
 use Rattle.plane.specs.Source.{place_reply}
-use borrow.Author.Rules.{rules}
 use Rattle.plane.proofs.source.place_reply.Goals as goal
 
 pub returns : goal.returns

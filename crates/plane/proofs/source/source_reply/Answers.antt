@@ -4,7 +4,6 @@ use mathlib.Core.Path.{◌≡◌, ap, ap₂, ◌∙◌}
 use Rattle.plane.specs.declared.SourceSize.{SourceSize}
 use Rattle.plane.specs.Source.{chroma_size, holds, source_reply}
 use Rattle.plane.proofs.ReadySource.{planes_judged}
-use borrow.Author.Rules.{rules}
 use Rattle.plane.proofs.source.source_reply.Goals.{After-both-planes}
 use Rattle.plane.proofs.source.source_reply.Goals as goal
 

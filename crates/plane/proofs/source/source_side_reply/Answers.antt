@@ -1,6 +1,5 @@
 -- `plane::source::source_side_reply` meets its contract.
 use Rattle.plane.specs.Source.{source_side_reply}
-use borrow.Author.Rules.{rules}
 use Rattle.plane.proofs.source.source_side_reply.Goals as goal
 
 pub returns : goal.returns

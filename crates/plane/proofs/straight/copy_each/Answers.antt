@@ -1,9 +1,8 @@
 -- `plane::straight::copy_each` meets its contract.
-use Prim.Native.Nat.{◌-◌, ◌≤◌}
 use native.Mathlib.Omega.{arith}
-use mathlib.Core.Path.{◌≡◌, refl, sym, ◌∙◌}
-use lib.ListN.{length, get_or, length-set}
-use Rattle.basis.proofs.Lists.{filled, filled_none, filled_set, filled_end, tabulate_same}
+use mathlib.Core.Path.{refl, sym, ◌∙◌}
+use lib.ListN.{length-set}
+use Rattle.basis.proofs.Lists.{filled_none, filled_set, filled_end, tabulate_same}
 use Rattle.plane.proofs.straight.copy_each.Goals as goal
 
 pub loop-i-init : goal.loop-i-init

@@ -1,9 +1,8 @@
 -- `plane::straight::copy_each` meets its contract.
-use Prim.Native.Nat.{◌-◌, ◌≤◌}
-use native.Mathlib.Omega.{arith}
-use mathlib.Core.Path.{◌≡◌, refl, sym, ◌∙◌}
-use lib.ListN.{length, get_or, length-set}
-use Rattle.basis.proofs.Lists.{filled, filled_none, filled_set, filled_end, tabulate_same}
+use Prim.Native.Nat.{◌≤◌}
+use mathlib.Core.Path.{◌≡◌}
+use lib.ListN.{length, get_or}
+use Rattle.basis.proofs.Lists.{filled}
 use Rattle.plane.proofs.straight.copy_each.Given as goal
 
 abbrev pub invariant-loop-i : goal.invariant-loop-i

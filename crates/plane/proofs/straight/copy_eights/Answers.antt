@@ -1,9 +1,9 @@
 -- `plane::straight::copy_eights` meets its contract.
 use mathlib.Core.Path.{ap, ◌∙◌}
 use Prim.Native.Nat.{ℕ}
-use Prim.Native.Nat.{◌+◌, ◌-◌, ◌*◌, ◌/◌, ◌≤◌}
+use Prim.Native.Nat.{◌+◌, ◌-◌, ◌*◌}
 use native.Mathlib.Omega.{arith}
-use mathlib.Core.Path.{◌≡◌, refl, sym}
+use mathlib.Core.Path.{◌≡◌, refl}
 use lib.ListN.{length, length-take, length-drop}
 use Rattle.plane.proofs.Front.{fronted, front_more, front_end}
 use Rattle.plane.proofs.straight.copy_eights.Goals as goal

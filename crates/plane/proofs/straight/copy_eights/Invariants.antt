@@ -1,11 +1,8 @@
 -- `plane::straight::copy_eights` meets its contract.
-use mathlib.Core.Path.{ap, ◌∙◌}
-use Prim.Native.Nat.{ℕ}
-use Prim.Native.Nat.{◌+◌, ◌-◌, ◌*◌, ◌/◌, ◌≤◌}
-use native.Mathlib.Omega.{arith}
-use mathlib.Core.Path.{◌≡◌, refl, sym}
-use lib.ListN.{length, length-take, length-drop}
-use Rattle.plane.proofs.Front.{fronted, front_more, front_end}
+use Prim.Native.Nat.{◌*◌, ◌/◌, ◌≤◌}
+use mathlib.Core.Path.{◌≡◌}
+use lib.ListN.{length}
+use Rattle.plane.proofs.Front.{fronted}
 use Rattle.plane.proofs.straight.copy_eights.Given as goal
 
 abbrev pub invariant-loop-k : goal.invariant-loop-k

@@ -6,7 +6,6 @@ use mathlib.Core.List.{List, ◌++◌}
 use Prim.Native.Nat.{ℕ}
 use lib.ListN.{length, drop, length-take}
 use Rattle.plane.proofs.Front.{front_end}
-use borrow.Author.Rules.{rules}
 use Rattle.plane.proofs.straight.copy_fours.Goals as goal
 
 pub slice_bounds-copy_four-end : goal.slice_bounds-copy_four-end

@@ -3,7 +3,6 @@ use native.Mathlib.Omega.{arith}
 use mathlib.Core.Path.{sym, ◌∙◌}
 use lib.ListN.{length}
 use Rattle.refusal.proofs.Tests.{between-low, between-high}
-use borrow.Author.Rules.{rules}
 use Rattle.plane.proofs.straight.copy_straight.Goals as goal
 
 pub copy_eights-requires : goal.copy_eights-requires

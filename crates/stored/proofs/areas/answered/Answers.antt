@@ -1,5 +1,4 @@
 -- `stored::areas::answered` meets its contract.
-use borrow.Author.Rules.{rules}
 use mathlib.Core.Path.{sym, ◌∙◌}
 use Rattle.stored.proofs.Lengths.{answered-done, answered_refused}
 use Rattle.stored.proofs.areas.answered.Goals as goal

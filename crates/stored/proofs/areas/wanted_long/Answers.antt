@@ -1,5 +1,4 @@
 -- `stored::areas::wanted_long` meets its contract.
-use borrow.Author.Rules.{rules}
 use borrow.Author.Tests.{lt-ltb, le-ltb}
 use Rattle.stored.proofs.areas.wanted_long.Goals as goal
 

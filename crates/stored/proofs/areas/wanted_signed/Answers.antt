@@ -1,5 +1,4 @@
 -- `stored::areas::wanted_signed` meets its contract.
-use borrow.Author.Rules.{rules}
 use borrow.Author.Tests.{lt-ltb, le-ltb}
 use mathlib.Core.Path.{◌∙◌}
 use Rattle.basis.proofs.Signed.{of_bits_lem}

@@ -1,5 +1,4 @@
 -- `stored::lent::events_same` meets its contract.
-use borrow.Author.Rules.{rules}
 use Rattle.stored.proofs.lent.events_same.Goals as goal
 
 pub returns : goal.returns
