@@ -1,8 +1,15 @@
 // The program: a clip on standard input, a line for each macroblock on standard output.
-use libc::STDIN_FILENO;
+#![tactic(auto)]
 
-fn main() {
-    if !play::play(STDIN_FILENO) {
-        os::fail(b"broodline: standard output");
+use std::process::ExitCode;
+
+// The descriptor of standard input.
+const STDIN: i32 = 0;
+
+fn main(rt: HostRuntime) -> ExitCode {
+    if play::play(STDIN) {
+        return ExitCode::SUCCESS;
     }
+    let _ = eprintln!(rt; "broodline: standard output");
+    ExitCode::FAILURE
 }

@@ -1,25 +1,19 @@
 // Stored clips, each played by what broodline runs: a line with the file's name, then what it prints.
-use libc::STDOUT_FILENO;
+#![tactic(auto)]
 
-fn play_file(name: &[u8]) {
-    io::write_all(STDOUT_FILENO, name);
-    io::write_all(STDOUT_FILENO, b":\n");
-    let input = os::open_read(name);
-    play::play(input);
-    libc::close(input);
+use std::os::fd::AsRawFd;
+use std::{env, fs, io};
+
+fn play_file(rt: &HostRuntime, name: &str) -> io::Result<()> {
+    println!(rt; "{name}:")?;
+    let input = fs::open(rt, name)?;
+    play::play(input.as_raw_fd());
+    Ok(())
 }
 
-fn play_argument(i: usize) {
-    let mut buffer = [0u8; 64];
-    let n = os::arg(i, &mut buffer);
-    play_file(&buffer[..n]);
-}
-
-fn main() {
-    let count = os::arg_count();
-    let mut i: usize = 1;
-    while i < count {
-        play_argument(i);
-        i += 1;
+fn main(rt: HostRuntime) -> io::Result<()> {
+    for name in env::args(&rt)?.skip(1) {
+        play_file(&rt, name.as_str())?;
     }
+    Ok(())
 }

@@ -1,5 +1,5 @@
 // The worked examples without a star.
-use libc::STDOUT_FILENO;
+use crate::STDOUT;
 use plane::{MacroblockPlace, SourceSize};
 
 // Whether every coefficient from place k on is 0.
@@ -36,11 +36,11 @@ fn one_among_zeros() -> bool {
 }
 
 fn report(right: bool, name: &[u8]) {
-    io::write_all(STDOUT_FILENO, name);
+    io::write_all(STDOUT, name);
     if right {
-        io::write_all(STDOUT_FILENO, b": as it should be\n");
+        io::write_all(STDOUT, b": as it should be\n");
     } else {
-        io::write_all(STDOUT_FILENO, b": WRONG\n");
+        io::write_all(STDOUT, b": WRONG\n");
     }
 }
 

@@ -1,7 +1,7 @@
 // Every stored call, made again: how many of each entry have the stored answer, and how many of those are refused.
 ghost use Rattle.std.specs.Prelude.{◌<◌};
 
-use libc::STDOUT_FILENO;
+use crate::STDOUT;
 
 // By the entry's number; 0 for a call of no entry.
 #[derive(Clone, Copy)]
@@ -124,64 +124,64 @@ pub fn replay_all(input: i32) -> Tally {
 // Of the entries from 32 on, which predict.
 fn predicted_name(entry: usize) -> bool {
     match entry {
-        32 => io::write_all(STDOUT_FILENO, b"chroma_vector"),
-        33 => io::write_all(STDOUT_FILENO, b"chroma_vector_4mv"),
-        34 => io::write_all(STDOUT_FILENO, b"predict_macroblock"),
-        35 => io::write_all(STDOUT_FILENO, b"predict_macroblock_4mv"),
-        36 => io::write_all(STDOUT_FILENO, b"code_predicted_macroblock"),
-        _ => io::write_all(STDOUT_FILENO, b"step_predicted"),
+        32 => io::write_all(STDOUT, b"chroma_vector"),
+        33 => io::write_all(STDOUT, b"chroma_vector_4mv"),
+        34 => io::write_all(STDOUT, b"predict_macroblock"),
+        35 => io::write_all(STDOUT, b"predict_macroblock_4mv"),
+        36 => io::write_all(STDOUT, b"code_predicted_macroblock"),
+        _ => io::write_all(STDOUT, b"step_predicted"),
     }
 }
 
 fn name(entry: usize) -> bool {
     match entry {
-        1 => io::write_all(STDOUT_FILENO, b"interpolate_block_into"),
-        2 => io::write_all(STDOUT_FILENO, b"interpolate_block_qpel_into"),
-        3 => io::write_all(STDOUT_FILENO, b"interpolate_pixel"),
-        4 => io::write_all(STDOUT_FILENO, b"split_half_pel"),
-        5 => io::write_all(STDOUT_FILENO, b"split_quarter_pel"),
-        6 => io::write_all(STDOUT_FILENO, b"fetch_clamped"),
-        7 => io::write_all(STDOUT_FILENO, b"copy_block"),
-        8 => io::write_all(STDOUT_FILENO, b"predict_luma_block"),
-        9 => io::write_all(STDOUT_FILENO, b"predict_luma_macroblock"),
-        10 => io::write_all(STDOUT_FILENO, b"predict_luma_macroblock_4mv"),
-        11 => io::write_all(STDOUT_FILENO, b"forward_dct_8x8"),
-        12 => io::write_all(STDOUT_FILENO, b"quantise_block"),
-        13 => io::write_all(STDOUT_FILENO, b"inverse_block"),
-        14 => io::write_all(STDOUT_FILENO, b"forward_scan"),
-        15 => io::write_all(STDOUT_FILENO, b"inverse_scan"),
-        16 => io::write_all(STDOUT_FILENO, b"levels_to_events"),
-        17 => io::write_all(STDOUT_FILENO, b"inter_scan"),
-        18 => io::write_all(STDOUT_FILENO, b"source_luma_block"),
-        19 => io::write_all(STDOUT_FILENO, b"source_chroma_block"),
-        20 => io::write_all(STDOUT_FILENO, b"estimate_motion"),
-        21 => io::write_all(STDOUT_FILENO, b"estimate_motion_4mv"),
-        22 => io::write_all(STDOUT_FILENO, b"intra_activity"),
-        23 => io::write_all(STDOUT_FILENO, b"macroblock_residual"),
-        24 => io::write_all(STDOUT_FILENO, b"quantise_inter_block"),
-        25 => io::write_all(STDOUT_FILENO, b"quantise_inter_residual"),
-        26 => io::write_all(STDOUT_FILENO, b"inter_cbp"),
-        27 => io::write_all(STDOUT_FILENO, b"code_macroblock"),
-        28 => io::write_all(STDOUT_FILENO, b"open"),
-        29 => io::write_all(STDOUT_FILENO, b"next_place"),
-        30 => io::write_all(STDOUT_FILENO, b"step"),
-        31 => io::write_all(STDOUT_FILENO, b"close"),
+        1 => io::write_all(STDOUT, b"interpolate_block_into"),
+        2 => io::write_all(STDOUT, b"interpolate_block_qpel_into"),
+        3 => io::write_all(STDOUT, b"interpolate_pixel"),
+        4 => io::write_all(STDOUT, b"split_half_pel"),
+        5 => io::write_all(STDOUT, b"split_quarter_pel"),
+        6 => io::write_all(STDOUT, b"fetch_clamped"),
+        7 => io::write_all(STDOUT, b"copy_block"),
+        8 => io::write_all(STDOUT, b"predict_luma_block"),
+        9 => io::write_all(STDOUT, b"predict_luma_macroblock"),
+        10 => io::write_all(STDOUT, b"predict_luma_macroblock_4mv"),
+        11 => io::write_all(STDOUT, b"forward_dct_8x8"),
+        12 => io::write_all(STDOUT, b"quantise_block"),
+        13 => io::write_all(STDOUT, b"inverse_block"),
+        14 => io::write_all(STDOUT, b"forward_scan"),
+        15 => io::write_all(STDOUT, b"inverse_scan"),
+        16 => io::write_all(STDOUT, b"levels_to_events"),
+        17 => io::write_all(STDOUT, b"inter_scan"),
+        18 => io::write_all(STDOUT, b"source_luma_block"),
+        19 => io::write_all(STDOUT, b"source_chroma_block"),
+        20 => io::write_all(STDOUT, b"estimate_motion"),
+        21 => io::write_all(STDOUT, b"estimate_motion_4mv"),
+        22 => io::write_all(STDOUT, b"intra_activity"),
+        23 => io::write_all(STDOUT, b"macroblock_residual"),
+        24 => io::write_all(STDOUT, b"quantise_inter_block"),
+        25 => io::write_all(STDOUT, b"quantise_inter_residual"),
+        26 => io::write_all(STDOUT, b"inter_cbp"),
+        27 => io::write_all(STDOUT, b"code_macroblock"),
+        28 => io::write_all(STDOUT, b"open"),
+        29 => io::write_all(STDOUT, b"next_place"),
+        30 => io::write_all(STDOUT, b"step"),
+        31 => io::write_all(STDOUT, b"close"),
         _ => predicted_name(entry),
     }
 }
 
 fn print_line(entry: usize, equal: u64, refused: u64) {
     name(entry);
-    io::write_all(STDOUT_FILENO, b": ");
-    io::print_decimal(STDOUT_FILENO, equal);
-    io::write_all(STDOUT_FILENO, b" equal, ");
-    io::print_decimal(STDOUT_FILENO, refused);
-    io::write_all(STDOUT_FILENO, b" of them refused\n");
+    io::write_all(STDOUT, b": ");
+    io::print_decimal(STDOUT, equal);
+    io::write_all(STDOUT, b" equal, ");
+    io::print_decimal(STDOUT, refused);
+    io::write_all(STDOUT, b" of them refused\n");
 }
 
 fn print_calls(calls: u64) {
-    io::print_decimal(STDOUT_FILENO, calls);
-    io::write_all(STDOUT_FILENO, b" calls\n");
+    io::print_decimal(STDOUT, calls);
+    io::write_all(STDOUT, b" calls\n");
 }
 
 // A line an entry, then all the calls.

@@ -16,7 +16,7 @@ use Rattle.basis.specs.Lists.{raster}
 use Rattle.basis.specs.Parts.{above, below}
 use Rattle.basis.proofs.Case.{both}
 use Rattle.basis.proofs.Lists.{length-tabulate, get_or-tabulate, get_or-raster}
-use Rattle.basis.proofs.Parts.{sides, ext, above-add, below-add, above-sub, below_sub, above-shr, below-shr}
+use Rattle.basis.proofs.Parts.{sides, ext, above-add, below-add, above-shr, below-shr}
 use Rattle.refusal.specs.declared.Refusal.TheVariants.{Length}
 use Rattle.refusal.specs.declared.Reply.TheVariants.{Done}
 use Rattle.refusal.proofs.Replies.{unless-done, passed}

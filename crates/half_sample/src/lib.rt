@@ -1,4 +1,6 @@
 // Prediction of a block from a reference plane by a vector in half samples (7.6.2.1).
+#![tactic(auto)]
+
 ghost use Rattle.std.specs.Prelude.{◌≡◌, true, false, ◌%◌, ◌<◌, pos, negsuc, length};
 ghost use Rattle.refusal.specs.declared.Reply.TheVariants.{Done};
 ghost use Rattle.refusal.specs.Reply.{done};

@@ -10,8 +10,7 @@ ghost use Rattle.predicting.specs.Chroma.{chroma_in};
 use prediction::PvopMbMotion;
 
 // Of one vector: 2, 8.
-#[unsafe(no_mangle)]
-pub extern "C" fn hencouch_chroma_vector(
+pub fn hencouch_chroma_vector(
     mode: u32,
     mv_x: i32,
     mv_y: i32,
@@ -26,8 +25,7 @@ pub extern "C" fn hencouch_chroma_vector(
 }
 
 // Of four vectors, one for each 8 x 8 block: 2, 8.
-#[unsafe(no_mangle)]
-pub extern "C" fn hencouch_chroma_vector_4mv(
+pub fn hencouch_chroma_vector_4mv(
     mode: u32,
     vectors: &[i32; 8],
     vector: &mut [i32; 2],

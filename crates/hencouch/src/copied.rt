@@ -25,8 +25,7 @@ fn write_sample(told: Fetched, sample: &mut u8) -> u8
 }
 
 // The sample at column x and row y, both clamped: 4, 5.
-#[unsafe(no_mangle)]
-pub extern "C" fn hencouch_fetch_clamped(
+pub fn hencouch_fetch_clamped(
     samples: &[u8],
     width: usize,
     height: usize,
@@ -50,8 +49,7 @@ pub extern "C" fn hencouch_fetch_clamped(
 }
 
 // The block of clamped samples from column x and row y on: 4, 5, 12.
-#[unsafe(no_mangle)]
-pub extern "C" fn hencouch_copy_block(
+pub fn hencouch_copy_block(
     samples: &[u8],
     width: usize,
     height: usize,
@@ -78,8 +76,7 @@ pub extern "C" fn hencouch_copy_block(
 }
 
 // A macroblock's 16 x 16 luma samples: 6, 7, 8, 12.
-#[unsafe(no_mangle)]
-pub extern "C" fn hencouch_source_luma_block(
+pub fn hencouch_source_luma_block(
     y: &[u8],
     width: usize,
     height: usize,
@@ -99,8 +96,7 @@ pub extern "C" fn hencouch_source_luma_block(
 }
 
 // A macroblock's 8 x 8 samples of a chroma plane: 6, 7, 8, 12. Width and height are luma's.
-#[unsafe(no_mangle)]
-pub extern "C" fn hencouch_source_chroma_block(
+pub fn hencouch_source_chroma_block(
     chroma: &[u8],
     width: usize,
     height: usize,

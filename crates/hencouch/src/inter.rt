@@ -14,8 +14,7 @@ ghost use Rattle.areas.specs.Whole.{patterns_area};
 use plane::{MacroblockPlace, SourceSize};
 
 // How far a macroblock's luma lies from its mean: 6, 7, 8.
-#[unsafe(no_mangle)]
-pub extern "C" fn hencouch_intra_activity(
+pub fn hencouch_intra_activity(
     source: &[u8],
     width: usize,
     height: usize,
@@ -33,8 +32,7 @@ pub extern "C" fn hencouch_intra_activity(
 }
 
 // Source less prediction, in six blocks of 64: 6, 7, 8, 12.
-#[unsafe(no_mangle)]
-pub extern "C" fn hencouch_macroblock_residual(
+pub fn hencouch_macroblock_residual(
     y: &[u8],
     cb: &[u8],
     cr: &[u8],
@@ -62,8 +60,7 @@ pub extern "C" fn hencouch_macroblock_residual(
 }
 
 // The events of a block's residual: 10, 11, 12, 13, 14. Any first_method but 0 is the first method.
-#[unsafe(no_mangle)]
-pub extern "C" fn hencouch_quantise_inter_block(
+pub fn hencouch_quantise_inter_block(
     residual: &[i32],
     quantiser: u32,
     first_method: u8,
@@ -91,8 +88,7 @@ pub extern "C" fn hencouch_quantise_inter_block(
 }
 
 // The events of all six blocks, each in its own area: 10, 11, 12, 13, 14.
-#[unsafe(no_mangle)]
-pub extern "C" fn hencouch_quantise_inter_residual(
+pub fn hencouch_quantise_inter_residual(
     residual: &[i32],
     quantiser: u32,
     first_method: u8,
@@ -120,8 +116,7 @@ pub extern "C" fn hencouch_quantise_inter_residual(
 }
 
 // Which of six blocks have an event: the luma pattern, then the chroma pattern. Never refused.
-#[unsafe(no_mangle)]
-pub extern "C" fn hencouch_inter_cbp(counts: &[u8; 6], patterns: &mut [u8; 2]) -> u8
+pub fn hencouch_inter_cbp(counts: &[u8; 6], patterns: &mut [u8; 2]) -> u8
     ensures value { result ≡ 0 }
     ensures patterns_after { patterns.new ≡ patterns_area (luma_pattern_of counts.now) (chroma_pattern_of counts.now) }
 {

@@ -9,8 +9,7 @@ ghost use Rattle.scan.specs.Reply.{scan_reply, events_reply};
 ghost use Rattle.areas.specs.Numbers.{is_set};
 
 // 10, 11, 12, 13. Any first_method but 0 is the first method.
-#[unsafe(no_mangle)]
-pub extern "C" fn hencouch_quantise_block(
+pub fn hencouch_quantise_block(
     coefficients: &[i32],
     quantiser: u32,
     first_method: u8,
@@ -28,8 +27,7 @@ pub extern "C" fn hencouch_quantise_block(
 }
 
 // 10, 12, 13.
-#[unsafe(no_mangle)]
-pub extern "C" fn hencouch_inverse_block(levels: &[i32], quantiser: u32, out: &mut [i32]) -> u8
+pub fn hencouch_inverse_block(levels: &[i32], quantiser: u32, out: &mut [i32]) -> u8
     ensures { let reply = inverse_reply levels.now quantiser (length out.old) in
         let block = block_inverse (second_inverse quantiser) levels.now in
         (result ≡ code_of reply) × (out.new ≡ done reply block out.old) }
@@ -39,8 +37,7 @@ pub extern "C" fn hencouch_inverse_block(levels: &[i32], quantiser: u32, out: &m
 }
 
 // 12, 13, 14.
-#[unsafe(no_mangle)]
-pub extern "C" fn hencouch_forward_scan(levels: &[i32], scan: u32, out: &mut [i32]) -> u8
+pub fn hencouch_forward_scan(levels: &[i32], scan: u32, out: &mut [i32]) -> u8
     ensures { let reply = scan_reply levels.now scan (length out.old) in
         (result ≡ code_of reply) × (out.new ≡ done reply (scanned (grid_of scan) levels.now) out.old) }
 {
@@ -49,8 +46,7 @@ pub extern "C" fn hencouch_forward_scan(levels: &[i32], scan: u32, out: &mut [i3
 }
 
 // 12, 13, 14.
-#[unsafe(no_mangle)]
-pub extern "C" fn hencouch_inverse_scan(levels: &[i32], scan: u32, out: &mut [i32]) -> u8
+pub fn hencouch_inverse_scan(levels: &[i32], scan: u32, out: &mut [i32]) -> u8
     ensures { let reply = scan_reply levels.now scan (length out.old) in
         (result ≡ code_of reply) × (out.new ≡ done reply (unscanned (grid_of scan) levels.now) out.old) }
 {
@@ -59,8 +55,7 @@ pub extern "C" fn hencouch_inverse_scan(levels: &[i32], scan: u32, out: &mut [i3
 }
 
 // 12, 13. The count of events goes to *count; where the call is turned back, it stays as it is.
-#[unsafe(no_mangle)]
-pub extern "C" fn hencouch_levels_to_events(
+pub fn hencouch_levels_to_events(
     levels: &[i32],
     lasts: &mut [u8],
     runs: &mut [u8],
@@ -80,8 +75,7 @@ pub extern "C" fn hencouch_levels_to_events(
 }
 
 // The scan number of an inter block's scan: any number but 0 is yes. Never refused.
-#[unsafe(no_mangle)]
-pub extern "C" fn hencouch_inter_scan(interlaced: u8, alternate_scan: u8, scan: &mut u32) -> u8
+pub fn hencouch_inter_scan(interlaced: u8, alternate_scan: u8, scan: &mut u32) -> u8
     ensures value { result ≡ 0 }
     ensures scan_after { scan.new ≡ inter_scan (is_set interlaced) (is_set alternate_scan) }
 {

@@ -11,8 +11,7 @@ ghost use Rattle.areas.specs.Search.{one_areas_reply, four_areas_reply, vector_a
 use plane::{Geometry, MacroblockPlace, SourceSize};
 
 // One vector and its sum: 1, 2, 3, 4, 5, 6, 7, 8, 12.
-#[unsafe(no_mangle)]
-pub extern "C" fn hencouch_estimate_motion(
+pub fn hencouch_estimate_motion(
     source: &[u8],
     width: usize,
     height: usize,
@@ -48,8 +47,7 @@ pub extern "C" fn hencouch_estimate_motion(
 }
 
 // Four vectors around a seed and their sums: 1, 2, 3, 4, 5, 6, 7, 8, 9, 12.
-#[unsafe(no_mangle)]
-pub extern "C" fn hencouch_estimate_motion_4mv(
+pub fn hencouch_estimate_motion_4mv(
     source: &[u8],
     width: usize,
     height: usize,

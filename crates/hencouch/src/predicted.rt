@@ -14,8 +14,7 @@ use plane::Geometry;
 use prediction::PvopMbMotion;
 
 // The luma of a block: 2, 3, 4, 5, 8, 12, 14, 31.
-#[unsafe(no_mangle)]
-pub extern "C" fn hencouch_predict_luma_block(
+pub fn hencouch_predict_luma_block(
     samples: &[u8],
     width: usize,
     height: usize,
@@ -59,8 +58,7 @@ pub extern "C" fn hencouch_predict_luma_block(
 }
 
 // The luma of a macroblock by one vector: 2, 3, 4, 5, 8, 12, 31.
-#[unsafe(no_mangle)]
-pub extern "C" fn hencouch_predict_luma_macroblock(
+pub fn hencouch_predict_luma_macroblock(
     samples: &[u8],
     width: usize,
     height: usize,
@@ -102,8 +100,7 @@ pub extern "C" fn hencouch_predict_luma_macroblock(
 }
 
 // The same by four vectors, one for each 8 x 8 block: 2, 3, 4, 5, 8, 12, 31.
-#[unsafe(no_mangle)]
-pub extern "C" fn hencouch_predict_luma_macroblock_4mv(
+pub fn hencouch_predict_luma_macroblock_4mv(
     samples: &[u8],
     width: usize,
     height: usize,

@@ -15,8 +15,7 @@ ghost use Rattle.areas.specs.Whole.{record_areas, record_areas_of};
 use plane::{Geometry, SourceSize};
 
 // A run of which nothing is coded yet: 6.
-#[unsafe(no_mangle)]
-pub extern "C" fn hencouch_open(width: usize, height: usize, run: &mut [u64; 5]) -> u8
+pub fn hencouch_open(width: usize, height: usize, run: &mut [u64; 5]) -> u8
     ensures { let opened = open_of (size_of width height) in
         (result ≡ code_of opened.reply)
         × (run.new ≡ done opened.reply (run_numbers opened.run) run.old) }
@@ -30,8 +29,7 @@ pub extern "C" fn hencouch_open(width: usize, height: usize, run: &mut [u64; 5])
 }
 
 // Where the next macroblock stands, column and row, for any five numbers. Never refused.
-#[unsafe(no_mangle)]
-pub extern "C" fn hencouch_next_place(run: &[u64; 5], place: &mut [u64; 2]) -> u8
+pub fn hencouch_next_place(run: &[u64; 5], place: &mut [u64; 2]) -> u8
     ensures value { result ≡ 0 }
     ensures place_after { place.new ≡ place_numbers (next_place (run_of run.now)) }
 {
@@ -43,8 +41,7 @@ pub extern "C" fn hencouch_next_place(run: &[u64; 5], place: &mut [u64; 2]) -> u
 
 // Searches for the run's next macroblock and codes it against a lent prediction: 21, 22, then 1, 2, 3, 4, 5, 6, 7, 10, 11, 12, 14.
 // Any first_method but 0 is the first method.
-#[unsafe(no_mangle)]
-pub extern "C" fn hencouch_step(
+pub fn hencouch_step(
     run: &mut [u64; 5],
     fcode: u32,
     mode: u32,
@@ -132,8 +129,7 @@ pub extern "C" fn hencouch_step(
 }
 
 // Searches for the run's next macroblock, predicts it by the vectors found and codes it: 21, 22, then 1, 2, 3, 4, 5, 6, 7, 10, 11, 12, 14, 31. Any first_method but 0 is the first method.
-#[unsafe(no_mangle)]
-pub extern "C" fn hencouch_step_predicted(
+pub fn hencouch_step_predicted(
     run: &mut [u64; 5],
     fcode: u32,
     mode: u32,
@@ -217,8 +213,7 @@ pub extern "C" fn hencouch_step_predicted(
 }
 
 // The totals of a run that is at its end, macroblocks, events and sums: 23.
-#[unsafe(no_mangle)]
-pub extern "C" fn hencouch_close(run: &[u64; 5], totals: &mut [u64; 3]) -> u8
+pub fn hencouch_close(run: &[u64; 5], totals: &mut [u64; 3]) -> u8
     ensures { let closed = close_of (run_of run.now) in
         (result ≡ code_of closed.reply)
         × (totals.new ≡ done closed.reply (totals_numbers closed.totals) totals.old) }

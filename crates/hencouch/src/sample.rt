@@ -15,8 +15,7 @@ ghost use Rattle.areas.specs.Numbers.{vector_of, is_set, flag_of};
 use plane::Geometry;
 
 // Half samples: 4, 5, 8, 12, 14.
-#[unsafe(no_mangle)]
-pub extern "C" fn hencouch_interpolate_block_into(
+pub fn hencouch_interpolate_block_into(
     samples: &[u8],
     width: usize,
     height: usize,
@@ -49,8 +48,7 @@ pub extern "C" fn hencouch_interpolate_block_into(
 }
 
 // Quarter samples: 3, 4, 5, 8, 12, 14.
-#[unsafe(no_mangle)]
-pub extern "C" fn hencouch_interpolate_block_qpel_into(
+pub fn hencouch_interpolate_block_qpel_into(
     samples: &[u8],
     width: usize,
     height: usize,
@@ -92,8 +90,7 @@ pub extern "C" fn hencouch_interpolate_block_qpel_into(
 }
 
 // One sample, a half to the right where half_x is not 0 and a half down where half_y is not 0. Never refused.
-#[unsafe(no_mangle)]
-pub extern "C" fn hencouch_interpolate_pixel(
+pub fn hencouch_interpolate_pixel(
     a: u8,
     b: u8,
     c: u8,
@@ -113,8 +110,7 @@ pub extern "C" fn hencouch_interpolate_pixel(
 }
 
 // Whole samples, rounded down, and 1 where half a sample is left. Never refused.
-#[unsafe(no_mangle)]
-pub extern "C" fn hencouch_split_half_pel(mv: i32, whole: &mut i32, half: &mut u8) -> u8
+pub fn hencouch_split_half_pel(mv: i32, whole: &mut i32, half: &mut u8) -> u8
     ensures value { result ≡ 0 }
     ensures whole_after { whole.new ≡ (split_half mv).whole }
     ensures half_after { half.new ≡ flag_of (split_half mv).half }
@@ -127,8 +123,7 @@ pub extern "C" fn hencouch_split_half_pel(mv: i32, whole: &mut i32, half: &mut u
 }
 
 // Whole samples, rounded down, and the quarters above them. Never refused.
-#[unsafe(no_mangle)]
-pub extern "C" fn hencouch_split_quarter_pel(mv: i32, whole: &mut i32, fraction: &mut u8) -> u8
+pub fn hencouch_split_quarter_pel(mv: i32, whole: &mut i32, fraction: &mut u8) -> u8
     ensures value { result ≡ 0 }
     ensures whole_after { whole.new ≡ (split_quarter mv).whole }
     ensures fraction_after { fraction.new ≡ (split_quarter mv).fraction }

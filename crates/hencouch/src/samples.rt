@@ -14,8 +14,7 @@ use plane::MacroblockPlace;
 use prediction::PvopMbMotion;
 
 // By one vector: 2, 3, 4, 5, 8, 12, 31.
-#[unsafe(no_mangle)]
-pub extern "C" fn hencouch_predict_macroblock(
+pub fn hencouch_predict_macroblock(
     ref_y: &[u8],
     ref_cb: &[u8],
     ref_cr: &[u8],
@@ -65,8 +64,7 @@ pub extern "C" fn hencouch_predict_macroblock(
 }
 
 // By four vectors, one for each 8 x 8 luma block: 2, 3, 4, 5, 8, 12, 31.
-#[unsafe(no_mangle)]
-pub extern "C" fn hencouch_predict_macroblock_4mv(
+pub fn hencouch_predict_macroblock_4mv(
     ref_y: &[u8],
     ref_cb: &[u8],
     ref_cr: &[u8],

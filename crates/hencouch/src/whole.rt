@@ -14,8 +14,7 @@ use plane::{Geometry, MacroblockPlace, SourceSize};
 
 // Searches for a macroblock and codes it against a lent prediction: 1, 2, 3, 4, 5, 6, 7, 8, 10, 11, 12, 14. Any first_method but 0 is
 // the first method.
-#[unsafe(no_mangle)]
-pub extern "C" fn hencouch_code_macroblock(
+pub fn hencouch_code_macroblock(
     fcode: u32,
     mode: u32,
     bpp: u32,
@@ -98,8 +97,7 @@ pub extern "C" fn hencouch_code_macroblock(
 }
 
 // Searches for a macroblock, predicts it by the vectors found and codes it: 1, 2, 3, 4, 5, 6, 7, 8, 10, 11, 12, 14, 31. Any first_method but 0 is the first method.
-#[unsafe(no_mangle)]
-pub extern "C" fn hencouch_code_predicted_macroblock(
+pub fn hencouch_code_predicted_macroblock(
     fcode: u32,
     mode: u32,
     bpp: u32,

@@ -1,5 +1,7 @@
 // What broodline does: it reads a clip's header and planes, then a row of predictions at a time, and prints a line for each macroblock.
 // Every answer comes from `clip` and `picture`, which are proved; no contract can say what is read or written.
+#![tactic(auto)]
+
 ghost use Rattle.std.specs.Prelude.{◌≡◌, ◌≤◌, length};
 ghost use Rattle.refusal.specs.declared.Reply.TheVariants.{Done};
 ghost use Rattle.clip.specs.Header.{head_reply};
@@ -100,9 +102,8 @@ pub fn play(input: i32) -> bool {
     }
 }
 
-// For a program whose main has an exit status: 0 where all that was to be printed is written, else 1.
-#[unsafe(no_mangle)]
-pub extern "C" fn hencouch_play(input: i32) -> u8
+// For a program of C, which `play_c` exports it to: 0 where all that was to be printed is written, else 1.
+pub fn hencouch_play(input: i32) -> u8
     ensures { result ≤ 1 }
 {
     if play(input) { 0 } else { 1 }

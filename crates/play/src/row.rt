@@ -4,11 +4,13 @@ ghost use Rattle.refusal.specs.declared.Reply.TheVariants.{Done};
 ghost use Rattle.clip.specs.Header.{head_reply};
 
 use clip::{Head, Text};
-use libc::STDOUT_FILENO;
 use macroblock::Settings;
 use picture::{Run, Stepped};
 use plane::{Geometry, SourceSize};
 use refusal::{Refusal, Reply};
+
+// The descriptor of standard output.
+const STDOUT: i32 = 1;
 
 // Whether another row may follow, whether all that was to be printed is written, and the run as it then is.
 #[derive(Clone, Copy)]
@@ -39,7 +41,7 @@ pub fn read_first(input: i32, area: &mut [u8], n: usize) -> usize
 fn print_first(area: &[u8], n: usize) -> bool
     requires { n ≤ length area.now }
 {
-    io::write_all(STDOUT_FILENO, &area[..n])
+    io::write_all(STDOUT, &area[..n])
 }
 
 pub fn print_refusal(why: Refusal) -> bool {

@@ -1,4 +1,6 @@
 // Prediction of a block and of a macroblock, luma in either mode. The layer above searches and codes by these promises alone.
+#![tactic(auto)]
+
 ghost use Rattle.std.specs.Prelude.{◌≡◌, length};
 ghost use Rattle.refusal.specs.Reply.{done};
 ghost use Rattle.plane.specs.Plane.{plane_of};

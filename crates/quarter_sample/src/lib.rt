@@ -1,4 +1,6 @@
 // Quarter-sample interpolation of luma blocks (ISO/IEC 14496-2, 7.6.2.2).
+#![tactic(auto)]
+
 ghost use Rattle.std.specs.Prelude.{◌≡◌, true, pos, negsuc, length};
 ghost use Rattle.refusal.specs.Reply.{done};
 ghost use Rattle.refusal.specs.Test.{in_range};

@@ -6,7 +6,6 @@ use Rattle.refusal.specs.declared.Reply.TheVariants.{Done}
 use Rattle.basis.proofs.Signed.{of_bits_lem}
 use Rattle.plane.specs.Corner.{block_at}
 use Rattle.plane.specs.Reference.{block_reply}
-use borrow.Author.Rules.{rules}
 use Rattle.half_sample.proofs.interpolate_block_into.Goals.{After-block_numbers_reply-reply, In-Done}
 use Rattle.half_sample.proofs.interpolate_block_into.Goals as goal
 
@@ -30,12 +29,12 @@ interpolate_ready-requires c = done (goal.at.interpolate_ready-requires c).In-Do
 
 pub returns-in-Refused : goal.returns-in-Refused
 returns-in-Refused c = record {
-      value = sym c.in-Refused.is ∙ reply_is (goal.at.returns-in-Refused c).After-block_numbers_reply-reply;
-      out_after = refl;
-    }
+  value = sym c.in-Refused.is ∙ reply_is (goal.at.returns-in-Refused c).After-block_numbers_reply-reply;
+  out_after = refl;
+}
 
 pub returns-in-Done : goal.returns-in-Done
 returns-in-Done c = record {
-      value = sym (done (goal.at.returns-in-Done c).In-Done);
-      out_after = c.interpolate_ready.ensures;
-    }
+  value = sym (done (goal.at.returns-in-Done c).In-Done);
+  out_after = c.interpolate_ready.ensures;
+}

@@ -1,5 +1,4 @@
 -- `half_sample::interpolate_pixel` meets its contract.
-use borrow.Author.Rules.{rules}
 use Rattle.half_sample.proofs.interpolate_pixel.Goals as goal
 
 pub returns-then-half_y : goal.returns-then-half_y

@@ -14,7 +14,6 @@ use Rattle.plane.specs.Plane.{plane_of}
 use Rattle.plane.proofs.Ready.{BlockReady, block_ready}
 use Rattle.half_sample.specs.Split.{split_half}
 use Rattle.half_sample.specs.Block.{sample_from, half_sample, half_block}
-use borrow.Author.Rules.{rules}
 use Rattle.half_sample.proofs.interpolate_ready.Goals.{After-start_of-across, After-start_of-along, After-struct_told-1, After-struct_told-3-1, Start}
 use Rattle.half_sample.proofs.interpolate_ready.Goals as goal
 

@@ -3,7 +3,6 @@ use mathlib.Core.Path.{◌≡◌, refl, sym, ◌∙◌}
 use lib.ListN.{length}
 use Rattle.refusal.specs.declared.Reply.TheVariants.{Done}
 use Rattle.half_sample.specs.Ring.{ring_reply}
-use borrow.Author.Rules.{rules}
 use Rattle.half_sample.proofs.interpolate_ring_into.Goals.{In-Done}
 use Rattle.half_sample.proofs.interpolate_ring_into.Goals as goal
 
@@ -17,11 +16,11 @@ ring_ready-requires c = done (goal.at.ring_ready-requires c).In-Done
 
 pub returns-in-Refused : goal.returns-in-Refused
 returns-in-Refused c = record {
-      value = sym c.in-Refused.is ∙ c.ring_reply-reply.ensures;
-      right_after = refl;
-      below_after = refl;
-      between_after = refl;
-    }
+  value = sym c.in-Refused.is ∙ c.ring_reply-reply.ensures;
+  right_after = refl;
+  below_after = refl;
+  between_after = refl;
+}
 
 pub returns-in-Done : goal.returns-in-Done
 returns-in-Done c =

@@ -8,7 +8,6 @@ use mir.ValLaws.{to_z-of_z, sfits_le}
 use Rattle.plane.proofs.Moved.{moved_fits}
 use Rattle.half_sample.specs.declared.HalfPel.{HalfPel}
 use Rattle.half_sample.specs.Split.{split_half}
-use borrow.Author.Rules.{rules}
 use Rattle.half_sample.proofs.start_of.Goals.{After-split_half_pel-split, Start}
 use Rattle.half_sample.proofs.start_of.Goals as goal
 

@@ -10,7 +10,6 @@ use Rattle.record.specs.Zero.{zero_vector}
 use Rattle.prediction.specs.declared.BVopSampleMode.{BVopSampleMode}
 use Rattle.prediction.specs.declared.PvopMbMotion.{PvopMbMotion}
 use Rattle.prediction.specs.Chroma.{chroma_vector, chroma_vector_of, motion_in_range, vectors_reply}
-use borrow.Author.Rules.{rules}
 use Rattle.prediction.proofs.chroma_vector.Goals as goal
 
 -- the answer, from a reply that is known

@@ -10,7 +10,6 @@ use Rattle.half_sample.specs.Block.{half_block}
 use Rattle.quarter_sample.specs.Block.{quarter_block}
 use Rattle.prediction.specs.declared.BVopSampleMode.{BVopSampleMode}
 use Rattle.prediction.specs.Luma.{predicted_block, interpolation_reply}
-use borrow.Author.Rules.{rules}
 use Rattle.prediction.proofs.interpolate_block.Goals.{Start}
 use Rattle.prediction.proofs.interpolate_block.Goals as goal
 

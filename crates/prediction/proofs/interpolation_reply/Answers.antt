@@ -3,14 +3,12 @@ use mathlib.Core.Path.{◌≡◌, sym, ap, ap₂, ◌∙◌}
 use lib.IntN.{ℤ}
 use Rattle.basis.proofs.Signed.{of_bits_lem}
 use Rattle.refusal.specs.declared.Reply.{Reply}
-use Rattle.refusal.specs.declared.Reply.TheVariants.{Done}
 use Rattle.refusal.proofs.Replies.{joined}
 use Rattle.plane.specs.Corner.{block_at}
 use Rattle.plane.specs.Reference.{block_reply}
 use Rattle.quarter_sample.specs.Block.{quarter_reply}
 use Rattle.prediction.specs.declared.BVopSampleMode.{BVopSampleMode}
 use Rattle.prediction.specs.Luma.{interpolation_reply}
-use borrow.Author.Rules.{rules}
 use Rattle.prediction.proofs.interpolation_reply.Goals.{After-block_numbers_reply-block, Start}
 use Rattle.prediction.proofs.interpolation_reply.Goals as goal
 

@@ -1,7 +1,6 @@
 -- `prediction::mode_reply` meets its contract.
 use mathlib.Core.Path.{sym, ap, ◌∙◌}
 use Rattle.prediction.specs.Macroblock.{mode_reply}
-use borrow.Author.Rules.{rules}
 use Rattle.prediction.proofs.mode_reply.Goals as goal
 
 pub returns-in-QuarterPel : goal.returns-in-QuarterPel

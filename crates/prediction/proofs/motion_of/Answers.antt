@@ -2,7 +2,6 @@
 use mathlib.Core.Path.{sym}
 use borrow.Author.Tests.{eq-eqb, ne_eqb}
 use Rattle.basis.proofs.Case.{then, else}
-use borrow.Author.Rules.{rules}
 use Rattle.prediction.proofs.motion_of.Goals as goal
 
 pub returns-then-count-eq4 : goal.returns-then-count-eq4

@@ -2,7 +2,6 @@
 use mathlib.Core.Path.{sym, ap, ◌∙◌}
 use Rattle.prediction.specs.declared.PvopMbMotion.{PvopMbMotion}
 use Rattle.prediction.specs.Macroblock.{motions_reply}
-use borrow.Author.Rules.{rules}
 use Rattle.prediction.proofs.motions_reply.Goals as goal
 
 pub returns-in-OneMv : goal.returns-in-OneMv

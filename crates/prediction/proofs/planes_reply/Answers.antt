@@ -4,7 +4,6 @@ use Rattle.refusal.proofs.Replies.{joined}
 use Rattle.plane.specs.declared.Geometry.{Geometry}
 use Rattle.plane.specs.Reference.{reference_size_reply, reference_bytes_reply}
 use Rattle.prediction.specs.Planes.{planes_reply}
-use borrow.Author.Rules.{rules}
 use Rattle.prediction.proofs.planes_reply.Goals as goal
 
 pub returns : goal.returns

@@ -1,6 +1,6 @@
 -- `prediction::predict_luma_block` meets its contract.
 use mathlib.Core.List.{List}
-use mathlib.Core.Path.{◌≡◌, sym, ap, ◌∙◌}
+use mathlib.Core.Path.{sym, ap, ◌∙◌}
 use Prim.Native.Nat.{ℕ}
 use lib.ListN.{length}
 use Rattle.refusal.specs.declared.Reply.{Reply}
@@ -9,7 +9,6 @@ use Rattle.refusal.proofs.Replies.{joined}
 use Rattle.plane.specs.Plane.{plane_of}
 use Rattle.prediction.specs.Luma.{interpolation_reply, predicted_block, predict_reply}
 use Rattle.prediction.proofs.Rounding.{then_nothing, lent_kept}
-use borrow.Author.Rules.{rules}
 use Rattle.prediction.proofs.predict_luma_block.Goals.{Start}
 use Rattle.prediction.proofs.predict_luma_block.Goals as goal
 

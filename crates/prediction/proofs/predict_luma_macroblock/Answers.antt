@@ -5,7 +5,6 @@ use Rattle.refusal.specs.declared.Reply.{Reply}
 use Rattle.refusal.specs.declared.Reply.TheVariants.{Done}
 use Rattle.refusal.proofs.Replies.{joined}
 use Rattle.prediction.specs.Macroblock.{macroblock_reply}
-use borrow.Author.Rules.{rules}
 use Rattle.prediction.proofs.predict_luma_macroblock.Goals.{After-and_then-reply, In-Done, Start}
 use Rattle.prediction.proofs.predict_luma_macroblock.Goals as goal
 
@@ -28,12 +27,12 @@ predict_ready-requires c = done (goal.at.predict_ready-requires c).In-Done
 
 pub returns-in-Refused : goal.returns-in-Refused
 returns-in-Refused c = record {
-      value = sym c.in-Refused.is ∙ answered (goal.at.returns-in-Refused c).After-and_then-reply;
-      out_after = refl;
-    }
+  value = sym c.in-Refused.is ∙ answered (goal.at.returns-in-Refused c).After-and_then-reply;
+  out_after = refl;
+}
 
 pub returns-in-Done : goal.returns-in-Done
 returns-in-Done c = record {
-      value = sym (done (goal.at.returns-in-Done c).In-Done);
-      out_after = c.predict_ready.ensures;
-    }
+  value = sym (done (goal.at.returns-in-Done c).In-Done);
+  out_after = c.predict_ready.ensures;
+}

@@ -5,7 +5,6 @@ use Rattle.refusal.specs.declared.Reply.TheVariants.{Done}
 use Rattle.plane.specs.Samples.{samples}
 use Rattle.prediction.specs.Planes.{lengths_in}
 use Rattle.prediction.specs.Prediction.{prediction_reply}
-use borrow.Author.Rules.{rules}
 use Rattle.prediction.proofs.predict_macroblock.Goals.{In-Done, Start}
 use Rattle.prediction.proofs.predict_macroblock.Goals as goal
 

@@ -18,7 +18,6 @@ use Rattle.prediction.specs.Planes.{chroma_geometry, lengths_in}
 use Rattle.prediction.specs.Prediction.{chroma_block, macroblock_prediction}
 use Rattle.prediction.proofs.PredictionReady.{PredictionReady, prediction_ready, macroblock-done, chroma-done}
 use Rattle.prediction.proofs.ChromaRange.{chroma_in-range}
-use borrow.Author.Rules.{rules}
 use Rattle.prediction.proofs.predict_planes.Goals.{After-vector_of-vector, Start}
 use Rattle.prediction.proofs.predict_planes.Goals as goal
 
@@ -36,26 +35,26 @@ start v = (goal.at.After-vector_of-vector v).Start
 
 -- a chroma block, from a plane and into an area that are not refused
 chroma_part_lem : (v : After-vector_of-vector) (bytes area : ℕ) → reference_reply (chroma_geometry (start v).args.geometry) bytes ≡ Done → area ≡ 64
-    → block_reply v.before.before.chroma-geometry.result bytes v.vector-of.result (square_at (corner_at 8 (start v).args.place) 8) area
+    → block_reply v.chroma_geometry-chroma.result bytes v.vector_of-vector.result (square_at (corner_at 8 (start v).args.place) 8) area
     ≡ Done
 chroma_part_lem v bytes area e f =
     let s = start v in
     let r = (ready s).moved in
     ap₂ (λ (g : Geometry) (w : MotionVector). block_reply g bytes w (square_at (corner_at 8 s.args.place) 8) area)
-    v.before.before.chroma-geometry.ensures v.vector-of.ensures
+    v.chroma_geometry-chroma.ensures v.vector_of-vector.ensures
     ∙ chroma-done s.args.mode _ bytes s.args.motion s.args.place area e r (chroma_in-range _ _ r.vectors) f
 
 -- its samples
 chroma_is : (v : After-vector_of-vector) (plane out : List ℕ)
-    → out ≡ half_block (plane_of plane v.before.before.chroma-geometry.result) (square_at (corner_at 8 (start v).args.place) 8)
-    v.vector-of.result (start v).args.rounding
+    → out ≡ half_block (plane_of plane v.chroma_geometry-chroma.result) (square_at (corner_at 8 (start v).args.place) 8)
+    v.vector_of-vector.result (start v).args.rounding
     → out ≡ chroma_block (start v).args.mode (plane_of plane (chroma_geometry (start v).args.geometry)) (start v).args.motion
     (start v).args.place (start v).args.rounding
 chroma_is v plane out e =
     let a = (start v).args in
     e
     ∙ ap₂ (λ (g : Geometry) (w : MotionVector). half_block (plane_of plane g) (square_at (corner_at 8 a.place) 8) w a.rounding)
-    v.before.before.chroma-geometry.ensures v.vector-of.ensures
+    v.chroma_geometry-chroma.ensures v.vector_of-vector.ensures
 
 pub corner_at-corner-requires : goal.corner_at-corner-requires
 corner_at-corner-requires c =

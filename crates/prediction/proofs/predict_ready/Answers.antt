@@ -15,7 +15,6 @@ use Rattle.prediction.specs.Macroblock.{eight_sample, macroblock_luma}
 use Rattle.prediction.specs.ToldFour.{part_at}
 use Rattle.prediction.proofs.Ready.{MacroblockReady, luma_done, macroblock_ready, four_ready}
 use Rattle.prediction.proofs.Weave.{woven}
-use borrow.Author.Rules.{rules}
 use Rattle.prediction.proofs.predict_ready.Goals.{Start}
 use Rattle.prediction.proofs.predict_ready.Goals as goal
 
@@ -30,36 +29,34 @@ lumaFor s m = let a = s.args in macroblock_luma a.mode (plane_of a.samples.now a
 
 pub predict_four-requires : goal.predict_four-requires
 predict_four-requires c =
-    let m = c.motion-in-FourMv-1.given in
-    (four_ready _ _ _ _ _ _ _ _ _ (ready (goal.at.predict_four-requires c).Start (FourMv m.0.0 m.0.1.0 m.0.1.1.0 m.0.1.1.1.0) m.1), refl)
+    let m = c.in-FourMv in
+    (four_ready _ _ _ _ _ _ _ _ _ (ready (goal.at.predict_four-requires c).Start (FourMv m.a m.b m.c m.d) m.is), refl)
 
 pub weave-requires : goal.weave-requires
 weave-requires c =
-    let m = c.motion-in-FourMv-1.given in
-    let r = ready (goal.at.weave-requires c).Start (FourMv m.0.0 m.0.1.0 m.0.1.1.0 m.0.1.1.1.0) m.1 in
-    (c.predict_four.auto.1.1.1.1.1.1.0, r.fits)
+    let m = c.in-FourMv in
+    (c.predict_four.auto.out, (ready (goal.at.weave-requires c).Start (FourMv m.a m.b m.c m.d) m.is).fits)
 
 pub returns-in-OneMv : goal.returns-in-OneMv
 unfolding predicted_block macroblock_luma
 returns-in-OneMv c =
     let a = c.args in
-    let m = c.motion-1.given in
-    let v = m.0.0 in
+    let v = c.in-OneMv.v in
     let site = square_at a.corner 16 in
-    let r = ready (goal.at.returns-in-OneMv c).Start (OneMv v) m.1 in
+    let r = ready (goal.at.returns-in-OneMv c).Start (OneMv v) c.in-OneMv.is in
     c.interpolate_block.ensures.out_after
     ∙ ap (λ (x : Reply). done x (predicted_block a.mode (plane_of a.samples.now a.geometry) site a.rounding v) a.out.now)
     (c.interpolate_block.ensures.value
     ∙ luma_done a.mode a.geometry (length a.samples.now) v site (length a.out.now) r.mode r.reference r.motions r.fits refl refl)
-    ∙ ap (lumaFor (goal.at.returns-in-OneMv c).Start) (sym m.1)
+    ∙ ap (lumaFor (goal.at.returns-in-OneMv c).Start) (sym c.in-OneMv.is)
 
 pub returns-in-FourMv : goal.returns-in-FourMv
 unfolding predicted_block macroblock_luma
 returns-in-FourMv c =
     let a = c.args in
-    let m = c.motion-in-FourMv-1.given in
-    let vs = m.0.0 ∷ m.0.1.0 ∷ m.0.1.1.0 ∷ m.0.1.1.1.0 ∷ [] in
+    let m = c.in-FourMv in
+    let vs = m.a ∷ m.b ∷ m.c ∷ m.d ∷ [] in
     c.weave.ensures
     ∙ ap (λ (l : List ℕ). raster 8 32 (λ i n. get_or l (part_at n + i) 0)) c.predict_four.ensures
     ∙ woven (eight_sample a.mode (plane_of a.samples.now a.geometry) vs a.corner a.rounding)
-    ∙ ap (lumaFor (goal.at.returns-in-FourMv c).Start) (sym m.1)
+    ∙ ap (lumaFor (goal.at.returns-in-FourMv c).Start) (sym m.is)

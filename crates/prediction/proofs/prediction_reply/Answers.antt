@@ -1,7 +1,6 @@
 -- `prediction::prediction_reply` meets its contract.
 use Rattle.refusal.proofs.Replies.{joined}
 use Rattle.prediction.specs.Prediction.{prediction_reply}
-use borrow.Author.Rules.{rules}
 use Rattle.prediction.proofs.prediction_reply.Goals as goal
 
 pub returns : goal.returns

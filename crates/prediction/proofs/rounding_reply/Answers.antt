@@ -2,7 +2,6 @@
 use mathlib.Core.Bool.{Bool}
 use mathlib.Core.Path.{ap, ◌∙◌}
 use Rattle.prediction.specs.Luma.{rounding_reply}
-use borrow.Author.Rules.{rules}
 use Rattle.refusal.specs.declared.Refusal.TheVariants.{RoundingType}
 use Rattle.refusal.specs.declared.Reply.TheVariants.{Done}
 use Rattle.refusal.specs.Reply.{unless}

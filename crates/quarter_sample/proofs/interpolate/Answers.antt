@@ -7,7 +7,6 @@ use mathlib.Core.List.{List, ◌++◌}
 use mathlib.Core.Path.{◌≡◌, sym, ap, ap₂, ◌∙◌}
 use lib.ListN.{length, take, drop, replicate}
 use lib.Seq.{length-take-le}
-use borrow.Author.Rules.{rules}
 use Rattle.basis.proofs.Bits.{rest_below}
 use Rattle.basis.proofs.Bounds.{product_le}
 use Rattle.refusal.specs.declared.Reply.{Reply}
@@ -15,7 +14,7 @@ use Rattle.refusal.specs.Reply.{done}
 use Rattle.plane.specs.declared.Point.{Point}
 use Rattle.plane.specs.Plane.{plane_of, copied, copied_block}
 use Rattle.plane.proofs.Ready.{BlockReady, block_ready, copy_done}
-use Rattle.quarter_sample.specs.declared.Start.{Start}
+use Rattle.quarter_sample.specs.declared.Start.{Start as BlockStart}
 use Rattle.quarter_sample.specs.Block.{quarter_sample, quarter_block}
 use Rattle.quarter_sample.specs.Filter.{largest}
 use Rattle.quarter_sample.specs.Split.{split_quarter}
@@ -34,7 +33,7 @@ small s =
     let h : s.args.site.height + 1 ≤ 17 = omega (arith, (ready s).side_h.high) in
     product_le w h
 
-abbrev place-by-steps : Start → Start
+abbrev place-by-steps : Start → BlockStart
 place-by-steps s = start_of s.args.site.corner s.args.vector
 
 -- the block that is copied, from a point on
@@ -60,13 +59,13 @@ module _ (c : After-copy_block) where
       ∙ ap (λ (r : Reply). done r (blockFrom (goal.at.After-copy_block c).Start c.start_of-start.result.at) (take (count (goal.at.After-copy_block c).Start) (replicate 289 0)))
       (c.copy_block.ensures.value
       ∙ copy_done a.geometry (length a.samples.now) (a.site.width + 1) (a.site.height + 1) _ (ready (goal.at.After-copy_block c).Start).reference (length-take-le _ _ (small (goal.at.After-copy_block c).Start)))
-      ∙ ap (λ (t : Start). blockFrom (goal.at.After-copy_block c).Start t.at) c.start_of-start.ensures
+      ∙ ap (λ (t : BlockStart). blockFrom (goal.at.After-copy_block c).Start t.at) c.start_of-start.ensures
 
 pub start_of-start-requires : goal.start_of-start-requires
 start_of-start-requires c = let r = ready (goal.at.start_of-start-requires c).Start in record {
-      x_value = (r.corner_x, r.corner_y);
-      x_value_2 = (r.vector_x, r.vector_y);
-    }
+  x_value = (r.corner_x, r.corner_y);
+  x_value_2 = (r.vector_x, r.vector_y);
+}
 
 pub overflow_add-w : goal.overflow_add-w
 overflow_add-w c = omega (arith, (ready (goal.at.overflow_add-w c).Start).side_w.high)
@@ -98,7 +97,7 @@ interpolate_place-requires c =
         rc_small = omega arith;
         out_fits = f.fits ∙ mul_comm c.args.site.width c.args.site.height;
       },
-      omega (arith, ap (λ (t : Start). t.fractions) c.start_of-start.ensures, rest_below v.x, rest_below v.y),
+      omega (arith, ap (λ (t : BlockStart). t.fractions) c.start_of-start.ensures, rest_below v.x, rest_below v.y),
     )
 
 pub returns : goal.returns
@@ -110,7 +109,7 @@ returns c =
     let o = (place-by-steps (goal.at.returns c).Start).at in
     let x = split_quarter a.vector.x in
     let y = split_quarter a.vector.y in
-    let fractions = ap (λ (t : Start). t.fractions) c.start_of-start.ensures in
+    let fractions = ap (λ (t : BlockStart). t.fractions) c.start_of-start.ensures in
     let r = copied (plane_of a.samples.now a.geometry) o.x o.y in
     c.interpolate_place.ensures
     ∙ ap₂ (λ (m n : ℕ). place_at a.site.width a.site.height rc m n (buffer (goal.at.returns c).After-copy_block ++ rest (goal.at.returns c).After-copy_block)) c.largest_sample.ensures fractions

@@ -2,7 +2,6 @@
 -- Assumes nothing.
 use mathlib.Core.Path.{◌≡◌, refl, sym, ◌∙◌}
 use lib.ListN.{length}
-use borrow.Author.Rules.{rules}
 use Rattle.refusal.specs.declared.Refusal.TheVariants.{BitsPerPixel}
 use Rattle.refusal.specs.declared.Reply.{Reply}
 use Rattle.refusal.specs.declared.Reply.TheVariants.{Done}
@@ -45,12 +44,12 @@ interpolate-requires c =
 
 pub returns-in-Refused : goal.returns-in-Refused
 returns-in-Refused c = record {
-      value = sym c.in-Refused.is ∙ answered (goal.at.returns-in-Refused c).After-and_then-reply;
-      out_after = refl;
-    }
+  value = sym c.in-Refused.is ∙ answered (goal.at.returns-in-Refused c).After-and_then-reply;
+  out_after = refl;
+}
 
 pub returns-in-Done : goal.returns-in-Done
 returns-in-Done c = record {
-      value = sym (passed (goal.at.returns-in-Done c).In-Done);
-      out_after = c.interpolate.ensures;
-    }
+  value = sym (passed (goal.at.returns-in-Done c).In-Done);
+  out_after = c.interpolate.ensures;
+}

@@ -6,7 +6,6 @@ use lib.IntN.{ℤ, ◌+ℤ◌}
 use mir.Syntax.{w32}
 use mir.Val.{SFits, to_z, of_z}
 use mir.ValLaws.{to_z-of_z}
-use borrow.Author.Rules.{rules}
 use Rattle.basis.proofs.Bits.{rest_below}
 use Rattle.basis.proofs.Signed.{of_bits_lem}
 use Rattle.plane.proofs.Moved.{moved_fits}
@@ -71,7 +70,8 @@ overflow_add-at-2 c = subst (SFits w32) (sym (sum_y (goal.at.overflow_add-at-2 c
 
 pub overflow_mul-result : goal.overflow_mul-result
 overflow_mul-result c =
-    omega (arith, quarters_y (goal.at.overflow_mul-result c).After-split_quarter_pel-down, rest_below c.args.vector.y)
+    let v = c.args.vector in
+    omega (arith, quarters_x (goal.at.overflow_mul-result c).After-split_quarter_pel-across, rest_below v.x, quarters_y (goal.at.overflow_mul-result c).After-split_quarter_pel-down, rest_below v.y)
 
 pub overflow_add-result : goal.overflow_add-result
 overflow_add-result c =

@@ -1,11 +1,8 @@
 -- `half_sample::ring::below_of` meets its contract.
-use Prim.Native.Nat.{◌-◌, ◌≤◌}
 use native.Mathlib.Omega.{arith}
-use mathlib.Core.Bool.{true, false}
-use mathlib.Core.Path.{◌≡◌, refl, sym}
-use lib.ListN.{length, length-set}
-use Rattle.basis.proofs.Lists.{filled, filled_none, filled_set, filled_end}
-use Rattle.half_sample.specs.Ring.{ring_at}
+use mathlib.Core.Path.{refl, sym}
+use lib.ListN.{length-set}
+use Rattle.basis.proofs.Lists.{filled_none, filled_set, filled_end}
 use Rattle.half_sample.proofs.ring.below_of.Goals as goal
 
 pub loop-i-init : goal.loop-i-init

@@ -1,10 +1,9 @@
 -- `half_sample::ring::below_of` meets its contract.
-use Prim.Native.Nat.{◌-◌, ◌≤◌}
-use native.Mathlib.Omega.{arith}
+use Prim.Native.Nat.{◌≤◌}
 use mathlib.Core.Bool.{true, false}
-use mathlib.Core.Path.{◌≡◌, refl, sym}
-use lib.ListN.{length, length-set}
-use Rattle.basis.proofs.Lists.{filled, filled_none, filled_set, filled_end}
+use mathlib.Core.Path.{◌≡◌}
+use lib.ListN.{length}
+use Rattle.basis.proofs.Lists.{filled}
 use Rattle.half_sample.specs.Ring.{ring_at}
 use Rattle.half_sample.proofs.ring.below_of.Given as goal
 

@@ -1,10 +1,9 @@
 -- `half_sample::ring::ring_ready` meets its contract.
-use Prim.Native.Nat.{ℕ, ◌+◌, ◌<◌}
+use Prim.Native.Nat.{◌+◌, ◌<◌}
 use native.Mathlib.Omega.{arith}
 use mathlib.Core.Bool.{true, false}
 use mathlib.Core.Path.{◌≡◌, ap, ◌∙◌}
 use lib.ListN.{length}
-use borrow.Author.Rules.{rules}
 use Rattle.half_sample.specs.Ring.{ring_grid}
 use Rattle.half_sample.proofs.Grids.{ring_is}
 use Rattle.half_sample.proofs.ring.ring_ready.Goals.{Start}

@@ -1,7 +1,4 @@
 -- `half_sample::ring::ring_reply` meets its contract.
-use mathlib.Core.Bool.{Bool}
-use mathlib.Core.Path.{◌∙◌}
-use borrow.Author.Rules.{rules}
 use Rattle.half_sample.specs.Ring.{ring_reply}
 use Rattle.half_sample.proofs.ring.ring_reply.Goals as goal
 

@@ -9,7 +9,6 @@ use Rattle.basis.specs.Lists.{tabulate}
 use Rattle.basis.proofs.Case.{second_holds}
 use Rattle.half_sample.specs.ToldRows.{average_at}
 use Rattle.half_sample.proofs.Averages.{samples_for_one, samples_for_none}
-use borrow.Author.Rules.{rules}
 use Rattle.half_sample.proofs.rows.average_row.Goals.{Start}
 use Rattle.half_sample.proofs.rows.average_row.Goals as goal
 

@@ -13,7 +13,6 @@ use Rattle.plane.specs.Plane.{plane_of, columns_inside}
 use Rattle.plane.proofs.Inside.{inside_starts, inside_ends}
 use Rattle.plane.proofs.Ready.{usable}
 use Rattle.half_sample.specs.ToldRows.{sample_by}
-use borrow.Author.Rules.{rules}
 use Rattle.half_sample.proofs.rows.averaged.Goals.{After-struct_told-then-columns_inside-1}
 use Rattle.half_sample.proofs.rows.averaged.Goals as goal
 

@@ -15,7 +15,6 @@ use Rattle.plane.proofs.Ready.{copy_done}
 use Rattle.plane.proofs.Copied.{copy_held}
 use Rattle.half_sample.specs.ToldRows.{samples_for, sample_by}
 use Rattle.half_sample.proofs.Averages.{samples_for-low, copy_by, averaged_copy}
-use borrow.Author.Rules.{rules}
 use Rattle.half_sample.proofs.rows.copied_rows.Goals.{After-copy_block, Start}
 use Rattle.half_sample.proofs.rows.copied_rows.Goals as goal
 

@@ -5,7 +5,6 @@ use mathlib.Core.Path.{sym, ap₂, ◌∙◌}
 use lib.Seq.{length-take-le}
 use Rattle.basis.proofs.Bounds.{product_le}
 use Rattle.half_sample.proofs.Averages.{samples_for-high}
-use borrow.Author.Rules.{rules}
 use Rattle.half_sample.proofs.rows.crossing.Goals.{After-samples_for-2}
 use Rattle.half_sample.proofs.rows.crossing.Goals as goal
 

@@ -9,7 +9,6 @@ use Rattle.refusal.specs.Reply.{done}
 use Rattle.plane.specs.Plane.{plane_of, copied_block}
 use Rattle.plane.proofs.Ready.{copy_done}
 use Rattle.half_sample.specs.Block.{sample_from}
-use borrow.Author.Rules.{rules}
 use Rattle.half_sample.proofs.rows.interpolate_from.Goals as goal
 
 -- where neither is so

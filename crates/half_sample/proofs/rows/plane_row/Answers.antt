@@ -10,7 +10,6 @@ use Rattle.plane.specs.Plane.{Plane, plane_of, clamp_to}
 use Rattle.plane.proofs.Rows.{inside_row, row_end}
 use Rattle.half_sample.specs.ToldRows.{samples_for}
 use Rattle.half_sample.proofs.Averages.{averaged_row}
-use borrow.Author.Rules.{rules}
 use Rattle.half_sample.proofs.rows.plane_row.Goals.{After-clamp_coordinate, After-clamp_coordinate-2, After-samples_for-columns, Start}
 use Rattle.half_sample.proofs.rows.plane_row.Goals as goal
 
@@ -36,7 +35,7 @@ module _ (c : After-clamp_coordinate) where
 
 module _ (c : After-clamp_coordinate-2) where
   abbrev s2 : Start
-  s2 = s1 (goal.at.After-clamp_coordinate-2 c).After-clamp_coordinate
+  s2 = (goal.at.After-clamp_coordinate-2 c).Start
 
   abbrev low_row : ℕ
   low_row = c.clamp_coordinate-2.result

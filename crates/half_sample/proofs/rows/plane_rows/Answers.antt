@@ -1,19 +1,17 @@
 -- `half_sample::rows::plane_rows` meets its contract.
 use Prim.Native.Nat.{ℕ, ◌+◌, ◌-◌, ◌*◌, ◌≤◌}
 use native.Mathlib.Omega.{arith}
-use mathlib.Core.List.{List}
 use mathlib.Core.Path.{◌≡◌, refl, sym, ap, ◌∙◌, subst}
 use lib.IntN.{ℤ, pos}
 use lib.ListN.{length, take, drop}
 use mir.Syntax.{w32}
 use mir.Val.{to_z, of_z}
 use mir.ValLaws.{to_z-of_z}
-use Rattle.basis.specs.Lists.{tabulate, raster}
+use Rattle.basis.specs.Lists.{raster}
 use Rattle.basis.proofs.Bounds.{row_before}
 use Rattle.basis.proofs.Slices.{part_length}
-use Rattle.basis.proofs.Lists.{length-tabulate, laid, laid_none, laid_put, laid_end}
-use Rattle.plane.specs.Plane.{Plane, geometry_of, plane_of}
-use Rattle.half_sample.specs.declared.Halves.{Halves}
+use Rattle.basis.proofs.Lists.{length-tabulate, laid_none, laid_put, laid_end}
+use Rattle.plane.specs.Plane.{geometry_of, plane_of}
 use Rattle.half_sample.specs.ToldRows.{samples_for, sample_by}
 use Rattle.half_sample.proofs.rows.plane_rows.Invariants.{block_row}
 use Rattle.half_sample.proofs.rows.plane_rows.Goals.{In-loop-j, Start}

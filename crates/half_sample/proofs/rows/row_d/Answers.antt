@@ -1,10 +1,8 @@
 -- `half_sample::rows::row_d` meets its contract.
-use Prim.Native.Nat.{◌-◌, ◌≤◌}
 use native.Mathlib.Omega.{arith}
-use mathlib.Core.Path.{◌≡◌, refl, sym}
-use lib.ListN.{length, length-set}
-use Rattle.basis.proofs.Lists.{filled, filled_none, filled_set, filled_end}
-use Rattle.half_sample.specs.ToldRows.{between_four}
+use mathlib.Core.Path.{refl, sym}
+use lib.ListN.{length-set}
+use Rattle.basis.proofs.Lists.{filled_none, filled_set, filled_end}
 use Rattle.half_sample.proofs.rows.row_d.Goals as goal
 
 pub loop-i-init : goal.loop-i-init

@@ -1,9 +1,8 @@
 -- `half_sample::rows::row_d` meets its contract.
-use Prim.Native.Nat.{◌-◌, ◌≤◌}
-use native.Mathlib.Omega.{arith}
-use mathlib.Core.Path.{◌≡◌, refl, sym}
-use lib.ListN.{length, length-set}
-use Rattle.basis.proofs.Lists.{filled, filled_none, filled_set, filled_end}
+use Prim.Native.Nat.{◌≤◌}
+use mathlib.Core.Path.{◌≡◌}
+use lib.ListN.{length}
+use Rattle.basis.proofs.Lists.{filled}
 use Rattle.half_sample.specs.ToldRows.{between_four}
 use Rattle.half_sample.proofs.rows.row_d.Given as goal
 

@@ -1,5 +1,4 @@
 -- `half_sample::rows::samples_for` meets its contract.
-use borrow.Author.Rules.{rules}
 use Rattle.half_sample.proofs.rows.samples_for.Goals as goal
 
 pub returns-then-half : goal.returns-then-half

@@ -5,7 +5,7 @@ use mathlib.Core.Path.{ap, ◌∙◌}
 use lib.IntN.{ℤ, pos, negsuc, ◌+ℤ◌}
 use mir.Syntax.{w32}
 use mir.Facts.{to_z-of_z}
-use borrow.Author.Rules.{sfits_of, rules}
+use borrow.Author.Rules.{sfits_of}
 use Rattle.basis.proofs.Signed.{of_bits_lem}
 use Rattle.refusal.specs.Test.{in_range}
 use Rattle.refusal.proofs.Tests.{and_left, and_right, range_read}

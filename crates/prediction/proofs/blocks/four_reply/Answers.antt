@@ -9,7 +9,6 @@ use Rattle.plane.specs.Corner.{block_corner}
 use Rattle.plane.specs.Reference.{motion_reply}
 use Rattle.plane.proofs.Ready.{origin_ready}
 use Rattle.prediction.proofs.Ready.{first_corner}
-use borrow.Author.Rules.{rules}
 use Rattle.prediction.proofs.blocks.four_reply.Goals.{In-Done, Start}
 use Rattle.prediction.proofs.blocks.four_reply.Goals as goal
 

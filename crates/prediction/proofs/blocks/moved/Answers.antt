@@ -8,7 +8,6 @@ use mir.ValLaws.{to_z-of_z}
 use mir.Facts.{to_z_pos}
 use Rattle.basis.proofs.Parts.{sides, above-add, below-add, parts_fit}
 use Rattle.refusal.proofs.Tests.{range-low, range-high}
-use borrow.Author.Rules.{rules}
 use Rattle.prediction.proofs.blocks.moved.Goals.{Start}
 use Rattle.prediction.proofs.blocks.moved.Goals as goal
 

@@ -9,13 +9,12 @@ use Rattle.plane.specs.declared.Point.{Point}
 use Rattle.plane.specs.Plane.{plane_of}
 use Rattle.plane.specs.Corner.{square_at}
 use Rattle.prediction.specs.Luma.{predicted_block, interpolation_reply}
-use borrow.Author.Rules.{rules}
 use Rattle.prediction.proofs.blocks.predict_block.Goals as goal
 
 pub returns : goal.returns
 returns c =
     let a = c.args in
-    let v = get_or a.t4 a.k zero_vector in
+    let v = get_or a.vectors a.k zero_vector in
     let p = plane_of a.samples.now a.geometry in
     let e = c.block_corner.ensures in
     c.interpolate_block.ensures.out_after

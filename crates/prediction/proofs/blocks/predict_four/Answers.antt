@@ -1,11 +1,11 @@
 -- `prediction::blocks::predict_four` meets its contract.
-use Prim.Native.Nat.{ℕ, ◌-◌, ◌*◌, ◌≤◌}
+use Prim.Native.Nat.{ℕ, ◌*◌}
 use native.Mathlib.Omega.{arith}
 use mathlib.Core.List.{List}
 use mathlib.Core.Path.{◌≡◌, refl, sym}
 use lib.ListN.{length, get_or}
 use Rattle.basis.proofs.Slices.{part_length}
-use Rattle.basis.proofs.Lists.{length-raster, laid, laid_none, laid_put, laid_end}
+use Rattle.basis.proofs.Lists.{length-raster, laid_none, laid_put, laid_end}
 use Rattle.record.specs.declared.MotionVector.{MotionVector}
 use Rattle.record.specs.Zero.{zero_vector}
 use Rattle.plane.specs.declared.Geometry.{Geometry}

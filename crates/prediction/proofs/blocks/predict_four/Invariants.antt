@@ -1,19 +1,9 @@
 -- `prediction::blocks::predict_four` meets its contract.
-use Prim.Native.Nat.{ℕ, ◌-◌, ◌*◌, ◌≤◌}
-use native.Mathlib.Omega.{arith}
-use mathlib.Core.List.{List}
-use mathlib.Core.Path.{◌≡◌, refl, sym}
-use lib.ListN.{length, get_or}
-use Rattle.basis.proofs.Slices.{part_length}
-use Rattle.basis.proofs.Lists.{length-raster, laid, laid_none, laid_put, laid_end}
-use Rattle.record.specs.declared.MotionVector.{MotionVector}
-use Rattle.record.specs.Zero.{zero_vector}
-use Rattle.plane.specs.declared.Geometry.{Geometry}
-use Rattle.plane.specs.declared.Point.{Point}
+use Prim.Native.Nat.{◌≤◌}
+use mathlib.Core.Path.{◌≡◌}
+use lib.ListN.{length}
+use Rattle.basis.proofs.Lists.{laid}
 use Rattle.plane.specs.Plane.{plane_of}
-use Rattle.plane.specs.Corner.{block_corner, square_at}
-use Rattle.prediction.specs.declared.BVopSampleMode.{BVopSampleMode}
-use Rattle.prediction.specs.Luma.{predicted_sample, predicted_block}
 use Rattle.prediction.specs.ToldFour.{eight_block}
 use Rattle.prediction.proofs.blocks.predict_four.Given as goal
 

@@ -1,14 +1,9 @@
 -- `prediction::blocks::weave` meets its contract.
-use Prim.Native.Nat.{ℕ, ◌+◌, ◌-◌, ◌*◌, ◌≤◌}
+use Prim.Native.Nat.{◌*◌}
 use native.Mathlib.Omega.{arith}
-use mathlib.Core.List.{List}
-use mathlib.Core.Path.{◌≡◌, refl, sym}
-use lib.ListN.{length, get_or}
-use Rattle.basis.specs.Lists.{tabulate}
+use mathlib.Core.Path.{refl, sym}
 use Rattle.basis.proofs.Slices.{part_length}
-use Rattle.basis.proofs.Lists.{length-tabulate, laid, laid_none, laid_put, laid_end}
-use Rattle.prediction.specs.ToldFour.{part_at}
-use Rattle.prediction.proofs.blocks.weave.Invariants.{part_of}
+use Rattle.basis.proofs.Lists.{length-tabulate, laid_none, laid_put, laid_end}
 use Rattle.prediction.proofs.blocks.weave.Goals as goal
 
 pub loop-n-init : goal.loop-n-init

@@ -1,12 +1,10 @@
 -- `prediction::blocks::weave` meets its contract.
-use Prim.Native.Nat.{ℕ, ◌+◌, ◌-◌, ◌*◌, ◌≤◌}
-use native.Mathlib.Omega.{arith}
+use Prim.Native.Nat.{ℕ, ◌+◌, ◌≤◌}
 use mathlib.Core.List.{List}
-use mathlib.Core.Path.{◌≡◌, refl, sym}
+use mathlib.Core.Path.{◌≡◌}
 use lib.ListN.{length, get_or}
 use Rattle.basis.specs.Lists.{tabulate}
-use Rattle.basis.proofs.Slices.{part_length}
-use Rattle.basis.proofs.Lists.{length-tabulate, laid, laid_none, laid_put, laid_end}
+use Rattle.basis.proofs.Lists.{laid}
 use Rattle.prediction.specs.ToldFour.{part_at}
 use Rattle.prediction.proofs.blocks.weave.Given as goal
 

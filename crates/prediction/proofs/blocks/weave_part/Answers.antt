@@ -8,7 +8,6 @@ use Rattle.refusal.specs.declared.Reply.{Reply}
 use Rattle.refusal.specs.Reply.{done}
 use Rattle.plane.proofs.Ready.{same_done}
 use Rattle.prediction.specs.ToldFour.{part_at}
-use borrow.Author.Rules.{rules}
 use Rattle.prediction.proofs.blocks.weave_part.Goals.{Start}
 use Rattle.prediction.proofs.blocks.weave_part.Goals as goal
 

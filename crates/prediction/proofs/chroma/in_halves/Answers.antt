@@ -11,7 +11,6 @@ use Rattle.basis.specs.Parts.{above, below}
 use Rattle.basis.proofs.Parts.{above_quot, below_quot, parts_fit, fits_above, fits_below}
 use Rattle.prediction.specs.declared.BVopSampleMode.{BVopSampleMode}
 use Rattle.prediction.specs.Chroma.{in_halves}
-use borrow.Author.Rules.{rules}
 use Rattle.prediction.proofs.chroma.in_halves.Goals.{Start}
 use Rattle.prediction.proofs.chroma.in_halves.Goals as goal
 

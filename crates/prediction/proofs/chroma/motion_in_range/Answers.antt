@@ -2,7 +2,6 @@
 use mathlib.Core.Bool.{◌&&◌}
 use mathlib.Core.Path.{sym, ap, ◌∙◌}
 use Rattle.prediction.specs.Chroma.{motion_in_range}
-use borrow.Author.Rules.{rules}
 use Rattle.prediction.proofs.chroma.motion_in_range.Goals as goal
 
 pub returns-in-OneMv : goal.returns-in-OneMv

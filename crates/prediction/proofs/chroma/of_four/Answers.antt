@@ -11,7 +11,6 @@ use Rattle.prediction.specs.Chroma.{in_halves, chroma_of_sum}
 use Rattle.prediction.proofs.ChromaRange.{halves_in, of_sum_size}
 use Rattle.basis.proofs.Sizes.{size_add}
 use Rattle.prediction.proofs.Sizes.{size_read, sum_is, sum_fits}
-use borrow.Author.Rules.{rules}
 use Rattle.prediction.proofs.chroma.of_four.Goals.{After-in_halves, After-in_halves-2, After-in_halves-3, After-in_halves-4}
 use Rattle.prediction.proofs.chroma.of_four.Goals as goal
 

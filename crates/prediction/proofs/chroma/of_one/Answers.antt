@@ -16,7 +16,6 @@ use Rattle.quarter_sample.specs.Split.{split_quarter}
 use Rattle.prediction.specs.Chroma.{chroma_of_one}
 use Rattle.basis.proofs.Sizes.{size_add, size_times}
 use Rattle.prediction.proofs.Sizes.{size_quarter, size_fits, size_read}
-use borrow.Author.Rules.{rules}
 use Rattle.prediction.proofs.chroma.of_one.Goals.{After-split_quarter_pel-split}
 use Rattle.prediction.proofs.chroma.of_one.Goals as goal
 

@@ -12,7 +12,6 @@ use Rattle.basis.proofs.Signed.{negative_fits, negative_read}
 use Rattle.prediction.specs.Chroma.{halves_of}
 use Rattle.prediction.proofs.ChromaRange.{sum_size}
 use Rattle.basis.proofs.Sizes.{signed_below, signed_above}
-use borrow.Author.Rules.{rules}
 use Rattle.prediction.proofs.chroma.of_sum.Goals.{After-halves_of, Start}
 use Rattle.prediction.proofs.chroma.of_sum.Goals as goal
 

@@ -9,7 +9,6 @@ use Rattle.prediction.specs.declared.BVopSampleMode.{BVopSampleMode}
 use Rattle.prediction.specs.Chroma.{in_halves, chroma_of_one, chroma_vector}
 use Rattle.prediction.proofs.ChromaRange.{part_x, part_y, halves_in, one_size}
 use Rattle.prediction.proofs.Sizes.{size_read}
-use borrow.Author.Rules.{rules}
 use Rattle.prediction.proofs.chroma.one_vector.Goals as goal
 
 -- a component's way through both calls

@@ -1,7 +1,6 @@
 -- `prediction::chroma::vector_of` meets its contract.
 use mathlib.Core.Path.{sym, ap, ◌∙◌}
 use Rattle.prediction.specs.Chroma.{chroma_vector, motion_in_range}
-use borrow.Author.Rules.{rules}
 use Rattle.prediction.proofs.chroma.vector_of.Goals as goal
 
 pub one_vector-requires : goal.one_vector-requires

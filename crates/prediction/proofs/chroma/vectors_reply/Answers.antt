@@ -5,7 +5,6 @@ use Rattle.refusal.specs.declared.Refusal.TheVariants.{Place}
 use Rattle.refusal.specs.declared.Reply.TheVariants.{Done}
 use Rattle.refusal.specs.Reply.{unless}
 use Rattle.prediction.specs.Chroma.{vectors_reply}
-use borrow.Author.Rules.{rules}
 use Rattle.prediction.proofs.chroma.vectors_reply.Goals as goal
 
 pub returns : goal.returns

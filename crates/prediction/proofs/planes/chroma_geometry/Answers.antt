@@ -1,5 +1,4 @@
 -- `prediction::planes::chroma_geometry` meets its contract.
-use borrow.Author.Rules.{rules}
 use Rattle.prediction.proofs.planes.chroma_geometry.Goals as goal
 
 pub returns : goal.returns

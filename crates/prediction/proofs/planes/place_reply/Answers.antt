@@ -3,7 +3,6 @@ use native.Mathlib.Omega.{arith}
 use mathlib.Core.Path.{sym, ap, ◌∙◌}
 use Rattle.prediction.specs.Macroblock.{motions_reply}
 use Rattle.prediction.proofs.PredictionReady.{far_refused}
-use borrow.Author.Rules.{rules}
 use Rattle.prediction.proofs.planes.place_reply.Goals as goal
 
 pub returns-then-place-gt256 : goal.returns-then-place-gt256

@@ -14,7 +14,6 @@ use Rattle.plane.proofs.Ready.{BlockReady, block_ready}
 use Rattle.half_sample.specs.Block.{half_block}
 use Rattle.prediction.specs.Luma.{predicted_block}
 use Rattle.prediction.proofs.PredictionReady.{corner_in}
-use borrow.Author.Rules.{rules}
 use Rattle.prediction.proofs.planes.predict_chroma.Goals.{Start}
 use Rattle.prediction.proofs.planes.predict_chroma.Goals as goal
 

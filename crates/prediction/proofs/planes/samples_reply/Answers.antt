@@ -5,7 +5,6 @@ use lib.Dec.{eqb}
 use Rattle.refusal.specs.declared.Refusal.TheVariants.{Length}
 use Rattle.refusal.specs.declared.Reply.TheVariants.{Done}
 use Rattle.refusal.specs.Reply.{unless}
-use borrow.Author.Rules.{rules}
 use Rattle.prediction.proofs.planes.samples_reply.Goals as goal
 
 pub returns : goal.returns

@@ -2,7 +2,6 @@
 use native.Mathlib.Omega.{arith}
 use mathlib.Core.Path.{◌≡◌}
 use lib.ListN.{length}
-use borrow.Author.Rules.{rules}
 use Rattle.quarter_sample.proofs.Lines.{at_quarter, at_half, at_three_quarters}
 use Rattle.quarter_sample.proofs.filter.filter_taps.Goals.{After-slice_known-1, Start}
 use Rattle.quarter_sample.proofs.filter.filter_taps.Goals as goal
@@ -13,21 +12,21 @@ start c = (goal.at.After-slice_known-1 c).Start
 
 pub near_taps-requires : goal.near_taps-requires
 near_taps-requires c = record {
-      rc_bound = (c.requires.fraction_nonzero.2, c.requires.taps_fit.fits3);
-      taps_fit = c.requires.taps_fit;
-    }
+  rc_bound = (c.requires.fraction_nonzero.2, c.requires.taps_fit.fits3);
+  taps_fit = c.requires.taps_fit;
+}
 
 pub half_taps-requires : goal.half_taps-requires
 half_taps-requires c = record {
-      rc_bound = c.requires.fraction_nonzero.2;
-      taps_fit = c.requires.taps_fit;
-    }
+  rc_bound = c.requires.fraction_nonzero.2;
+  taps_fit = c.requires.taps_fit;
+}
 
 pub near_taps-requires-in_default : goal.near_taps-requires-in_default
 near_taps-requires-in_default c = record {
-      rc_bound = (c.requires.fraction_nonzero.2, c.requires.taps_fit.fits4);
-      taps_fit = c.requires.taps_fit;
-    }
+  rc_bound = (c.requires.fraction_nonzero.2, c.requires.taps_fit.fits4);
+  taps_fit = c.requires.taps_fit;
+}
 
 pub returns-in-1 : goal.returns-in-1
 returns-in-1 c =

@@ -1,6 +1,5 @@
 -- `fir` meets its contract: the weights as eighths give the same.
 use native.Mathlib.Omega.{arith}
-use borrow.Author.Rules.{rules}
 use Rattle.quarter_sample.proofs.Weights.{fir_eighths}
 use Rattle.quarter_sample.proofs.filter.fir.Goals as goal
 

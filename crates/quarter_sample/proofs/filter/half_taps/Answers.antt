@@ -1,10 +1,8 @@
 -- `half_taps` meets its contract: after i turns i places are filled.
-use Prim.Native.Nat.{◌-◌, ◌≤◌}
 use native.Mathlib.Omega.{arith}
-use mathlib.Core.Path.{◌≡◌, refl, sym}
-use lib.ListN.{length, length-set}
-use Rattle.basis.proofs.Lists.{filled, filled_none, filled_set, filled_end}
-use Rattle.quarter_sample.specs.ToldPasses.{fir_rows}
+use mathlib.Core.Path.{refl, sym}
+use lib.ListN.{length-set}
+use Rattle.basis.proofs.Lists.{filled_none, filled_set, filled_end}
 use Rattle.quarter_sample.proofs.filter.half_taps.Goals.{After-fir, At-loop-i}
 use Rattle.quarter_sample.proofs.filter.half_taps.Goals as goal
 

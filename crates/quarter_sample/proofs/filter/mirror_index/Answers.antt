@@ -1,6 +1,5 @@
 -- `mirror_index` meets its contract: before the side, in it, and past it.
 use native.Mathlib.Omega.{arith}
-use borrow.Author.Rules.{rules}
 use Rattle.quarter_sample.proofs.Reflection.{mirror-low, mirror_mid, mirror-high}
 use Rattle.quarter_sample.proofs.filter.mirror_index.Goals as goal
 

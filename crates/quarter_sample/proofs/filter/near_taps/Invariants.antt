@@ -1,10 +1,8 @@
 -- `near_taps` meets its contract: after i turns i places are filled.
-use Prim.Native.Nat.{◌-◌, ◌≤◌}
-use native.Mathlib.Omega.{arith}
-use mathlib.Core.Path.{ap, ◌∙◌, ◌≡◌, refl, sym}
-use lib.ListN.{get_or, length, length-set}
-use Rattle.basis.proofs.Lists.{filled, filled_none, filled_set, filled_end}
-use Rattle.quarter_sample.specs.Filter.{average}
+use Prim.Native.Nat.{◌≤◌}
+use mathlib.Core.Path.{◌≡◌}
+use lib.ListN.{length}
+use Rattle.basis.proofs.Lists.{filled}
 use Rattle.quarter_sample.specs.ToldPasses.{near_rows}
 use Rattle.quarter_sample.proofs.filter.near_taps.Given as goal
 

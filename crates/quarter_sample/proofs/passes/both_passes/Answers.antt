@@ -5,7 +5,6 @@ use mathlib.Core.List.{List}
 use mathlib.Core.Path.{sym, ◌∙◌, subst}
 use lib.ListN.{length, drop, replicate}
 use lib.Seq.{length-take-le}
-use borrow.Author.Rules.{rules}
 use Rattle.basis.proofs.Bounds.{product_le}
 use Rattle.quarter_sample.proofs.Buffers.{still_filtered}
 use Rattle.quarter_sample.proofs.Blocks.{both}
@@ -66,7 +65,7 @@ rest s = drop (count s) (replicate 400 0)
 
 rows_fit : (c : After-filter_rows) → (c.args.h + 1) * (c.args.w + 7) ≤ length (wide c)
 rows_fit c =
-    subst (λ (n : ℕ). (c.args.h + 1) * (c.args.w + 7) ≤ n) (sym (c.filter_rows.auto.1.1.1.1.1.1.0 ∙ length-take-le _ _ (room (goal.at.After-filter_rows c).Start))) (reach (goal.at.After-filter_rows c).Start)
+    subst (λ (n : ℕ). (c.args.h + 1) * (c.args.w + 7) ≤ n) (sym (c.filter_rows.auto.wide ∙ length-take-le _ _ (room (goal.at.After-filter_rows c).Start))) (reach (goal.at.After-filter_rows c).Start)
 
 pub returns : goal.returns
 returns c =

@@ -1,13 +1,11 @@
 -- `column_pass` meets its contract: the mirrored rows, filtered in one long row, are the columns at the fraction.
 use Prim.Native.Nat.{ℕ, ◌+◌, ◌*◌, ◌≤◌}
 use native.Mathlib.Omega.{arith}
-use mathlib.Core.Logic.{⊎_elim}
 use mathlib.Core.Path.{◌≡◌, refl, sym, ap, ◌∙◌}
 use lib.Seq.{length-take-le}
-use borrow.Author.Rules.{rules}
 use Rattle.basis.proofs.Bounds.{product_le}
 use Rattle.quarter_sample.proofs.Buffers.{columned}
-use Rattle.quarter_sample.proofs.passes.column_pass.Goals.{Start}
+use Rattle.quarter_sample.proofs.passes.column_pass.Goals.{Start, in-16, in-8, in_default}
 use Rattle.quarter_sample.proofs.passes.column_pass.Goals as goal
 
 small : (s : Start) → (s.args.h + 7) * s.args.w ≤ 408
@@ -93,9 +91,8 @@ returns c =
     let a = c.args in
     let o = c.filter_spaced.ensures in
     let law = columned a.rc a.max a.fraction a.w a.h (a.w + 1) a.block.now in
-    ⊎_elim
-    (λ m. law _ 17 16 _ m.3.last.1.1.1.1.0 _ _ (omega (arith, m.0.keys1)) (sym m.0.keys1) m.5 m.3.ensures c.requires.out_fits o)
-    (⊎_elim
-    (λ m. law _ 9 8 _ m.3.last.1.1.1.1.0 _ _ (omega (arith, m.0.keys2)) (sym m.0.keys2) m.5 m.3.ensures c.requires.out_fits o)
-    (λ m. law _ (a.w + 1) a.w _ m.3.last.1.1.1.1.0 _ _ refl refl m.5 m.3.ensures c.requires.out_fits o))
-    c.match-w.branch
+    elim c.match-w.branch [
+      | in-16 w ↦ law _ 17 16 _ _ _ _ (omega (arith, w.in-16.is)) (sym w.in-16.is) w.middle-is w.mirror_rows.ensures c.requires.out_fits o
+      | in-8 w ↦ law _ 9 8 _ _ _ _ (omega (arith, w.in-8.is)) (sym w.in-8.is) w.middle-is w.mirror_rows-in-8.ensures c.requires.out_fits o
+      | in_default w ↦ law _ (a.w + 1) a.w _ _ _ _ refl refl w.middle-is w.mirror_rows-in_default.ensures c.requires.out_fits o
+    ]

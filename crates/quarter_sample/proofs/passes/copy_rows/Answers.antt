@@ -2,7 +2,6 @@
 use Prim.Native.Nat.{ℕ, ◌+◌, ◌*◌, ◌≤◌}
 use native.Mathlib.Omega.{arith}
 use mathlib.Core.Path.{sym, ap, ◌∙◌}
-use borrow.Author.Rules.{rules}
 use Rattle.basis.proofs.Bounds.{product_le}
 use Rattle.quarter_sample.specs.ToldPasses.{taken_rows}
 use Rattle.quarter_sample.proofs.passes.copy_rows.Goals as goal

@@ -4,7 +4,6 @@ use lib.ListN.{length}
 use Rattle.refusal.specs.declared.Reply.{Reply}
 use Rattle.refusal.specs.Reply.{done}
 use Rattle.plane.proofs.Ready.{same_done}
-use borrow.Author.Rules.{rules}
 use Rattle.quarter_sample.proofs.passes.copy_straight.Goals as goal
 
 pub returns : goal.returns

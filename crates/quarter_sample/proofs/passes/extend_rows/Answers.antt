@@ -1,14 +1,11 @@
 -- `extend_rows` meets its contract: after j turns j rows are laid.
-use Prim.Native.Nat.{◌+◌, ◌-◌, ◌*◌, ◌≤◌}
+use Prim.Native.Nat.{◌+◌, ◌*◌, ◌≤◌}
 use native.Mathlib.Omega.{arith}
-use mathlib.Core.Path.{◌≡◌, refl, sym, ap, ◌∙◌}
-use lib.IntN.{pos, ◌-ℤ◌}
+use mathlib.Core.Path.{refl, sym, ap, ◌∙◌}
 use lib.ListN.{length}
-use Rattle.basis.specs.Lists.{tabulate}
 use Rattle.basis.proofs.Bounds.{row_before}
-use Rattle.basis.proofs.Lists.{length-tabulate, laid, laid_none, laid_put, laid_end}
+use Rattle.basis.proofs.Lists.{length-tabulate, laid_none, laid_put, laid_end}
 use Rattle.basis.proofs.Slices.{part_length}
-use Rattle.quarter_sample.specs.ToldPasses.{row_line}
 use Rattle.quarter_sample.proofs.Buffers.{extended_row}
 use Rattle.quarter_sample.proofs.passes.extend_rows.Goals.{In-loop-j, Start}
 use Rattle.quarter_sample.proofs.passes.extend_rows.Goals as goal
@@ -61,8 +58,7 @@ extend_row-requires c =
 pub loop-j-preserved : goal.loop-j-preserved
 loop-j-preserved c =
     let a = c.args in
-    let n = a.n in
-    (
+    let n = a.n in (
       omega arith,
       omega arith,
       laid_put _ _ (λ j. length-tabulate _ _) c.loop-j.j a.ext.now c.loop-j.ext _ c.loop-j.invariant.2

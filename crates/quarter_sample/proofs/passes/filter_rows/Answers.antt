@@ -1,13 +1,11 @@
 -- `filter_rows` meets its contract: the extended rows, filtered in one long row, have the rows at the fraction.
 use Prim.Native.Nat.{ℕ, ◌+◌, ◌*◌, ◌≤◌}
 use native.Mathlib.Omega.{arith}
-use mathlib.Core.Logic.{⊎_elim}
 use mathlib.Core.Path.{◌≡◌, refl, sym, ap, ◌∙◌}
 use lib.Seq.{length-take-le}
-use borrow.Author.Rules.{rules}
 use Rattle.basis.proofs.Bounds.{product_le}
 use Rattle.quarter_sample.proofs.Buffers.{filtered}
-use Rattle.quarter_sample.proofs.passes.filter_rows.Goals.{Start}
+use Rattle.quarter_sample.proofs.passes.filter_rows.Goals.{Start, in-16, in-8, in_default}
 use Rattle.quarter_sample.proofs.passes.filter_rows.Goals as goal
 
 small : (s : Start) → s.args.rows * (s.args.w + 7) ≤ 408
@@ -78,9 +76,8 @@ returns c =
     let a = c.args in
     let o = c.filter_spaced.ensures in
     let law = filtered a.rc a.max a.fraction a.w a.rows a.block.now in
-    ⊎_elim
-    (λ m. law _ 17 _ m.3.last.1.1.1.0 _ _ (omega (arith, m.0.keys1)) m.5 m.3.ensures c.requires.reaches o)
-    (⊎_elim
-    (λ m. law _ 9 _ m.3.last.1.1.1.0 _ _ (omega (arith, m.0.keys2)) m.5 m.3.ensures c.requires.reaches o)
-    (λ m. law _ (a.w + 1) _ m.3.last.1.1.1.0 _ _ refl m.5 m.3.ensures c.requires.reaches o))
-    c.match-w.branch
+    elim c.match-w.branch [
+      | in-16 w ↦ law _ 17 _ _ _ _ (omega (arith, w.in-16.is)) w.ext-is w.extend_rows.ensures c.requires.reaches o
+      | in-8 w ↦ law _ 9 _ _ _ _ (omega (arith, w.in-8.is)) w.ext-is w.extend_rows-in-8.ensures c.requires.reaches o
+      | in_default w ↦ law _ (a.w + 1) _ _ _ _ refl w.ext-is w.extend_rows-in_default.ensures c.requires.reaches o
+    ]

@@ -1,7 +1,6 @@
 -- `filter_spaced` meets its contract: the eight parts are the taps of the long row.
 use mathlib.Core.Path.{◌∙◌}
 use lib.ListN.{length}
-use borrow.Author.Rules.{rules}
 use Rattle.quarter_sample.proofs.Buffers.{taps_fit, spaced}
 use Rattle.quarter_sample.proofs.passes.filter_spaced.Goals as goal
 

@@ -4,7 +4,6 @@ use mathlib.Core.List.{List}
 use mathlib.Core.Path.{◌≡◌, ◌∙◌}
 use lib.Dec.{lit<}
 use lib.ListN.{length}
-use borrow.Author.Rules.{rules}
 use Rattle.quarter_sample.specs.ToldPasses.{rows_at, columns_at, whole_at, both_at, place_at, block_source, PassNeeds}
 use Rattle.quarter_sample.proofs.Sixteen.{last_place}
 use Rattle.quarter_sample.proofs.Blocks.{place-by-steps, whole, across, down}

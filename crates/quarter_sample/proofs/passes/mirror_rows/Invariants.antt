@@ -1,15 +1,11 @@
 -- `mirror_rows` meets its contract: after u turns u rows are laid.
-use Prim.Native.Nat.{ℕ, ◌+◌, ◌-◌, ◌*◌, ◌<◌, ◌≤◌}
-use native.Mathlib.Omega.{arith}
-use mathlib.Core.Path.{◌≡◌, refl, sym, ap, ◌∙◌}
+use Prim.Native.Nat.{◌≤◌}
+use mathlib.Core.Path.{◌≡◌}
 use lib.IntN.{pos, ◌-ℤ◌}
-use lib.ListN.{length, get_or}
+use lib.ListN.{length}
 use Rattle.basis.specs.Lists.{tabulate}
-use Rattle.basis.proofs.Bounds.{row_before}
-use Rattle.basis.proofs.Lists.{length-tabulate, laid, laid_none, laid_put, laid_end}
-use Rattle.basis.proofs.Slices.{part_length}
+use Rattle.basis.proofs.Lists.{laid}
 use Rattle.quarter_sample.specs.ToldPasses.{column_line}
-use Rattle.quarter_sample.proofs.Reflection.{mirror-below}
 use Rattle.quarter_sample.proofs.passes.mirror_rows.Given as goal
 
 abbrev pub invariant-loop-u : goal.invariant-loop-u

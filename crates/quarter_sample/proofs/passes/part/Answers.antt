@@ -1,6 +1,5 @@
 -- `part` meets its contract: a part is the list of what stands there.
 use mathlib.Core.Path.{refl}
-use borrow.Author.Rules.{rules}
 use Rattle.basis.proofs.Slices.{part_tabulate}
 use Rattle.quarter_sample.proofs.passes.part.Goals as goal
 

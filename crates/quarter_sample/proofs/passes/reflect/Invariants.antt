@@ -1,11 +1,9 @@
 -- `reflect` meets its contract: after k turns k places are filled.
-use Prim.Native.Nat.{ℕ, ◌+◌, ◌-◌, ◌≤◌}
-use native.Mathlib.Omega.{arith}
-use mathlib.Core.Path.{◌≡◌, refl, sym, ap}
-use lib.ListN.{length, get_or, length-set}
-use Rattle.basis.proofs.Lists.{filled, filled_none, filled_set, filled_end}
+use Prim.Native.Nat.{◌+◌, ◌≤◌}
+use mathlib.Core.Path.{◌≡◌}
+use lib.ListN.{length}
+use Rattle.basis.proofs.Lists.{filled}
 use Rattle.quarter_sample.specs.ToldPasses.{reflected}
-use Rattle.quarter_sample.proofs.Reflection.{mirror-below}
 use Rattle.quarter_sample.proofs.passes.reflect.Given as goal
 
 abbrev pub invariant-loop-k : goal.invariant-loop-k

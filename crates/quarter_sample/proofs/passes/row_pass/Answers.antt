@@ -5,7 +5,6 @@ use mathlib.Core.List.{List, ◌++◌}
 use mathlib.Core.Path.{◌≡◌, refl, sym, ap, ◌∙◌, subst}
 use lib.ListN.{length, drop, replicate}
 use lib.Seq.{length-take-le}
-use borrow.Author.Rules.{rules}
 use Rattle.basis.proofs.Bounds.{product_le}
 use Rattle.quarter_sample.proofs.Buffers.{put_back, taken}
 use Rattle.quarter_sample.proofs.passes.row_pass.Goals.{After-filter_rows, Start}
@@ -64,10 +63,10 @@ rest s = drop (count s) (replicate 400 0)
 
 rows_fit : (c : After-filter_rows) → c.args.h * (c.args.w + 7) ≤ length (wide c)
 rows_fit c =
-    subst (λ (n : ℕ). c.args.h * (c.args.w + 7) ≤ n) (sym (c.filter_rows.auto.1.1.1.1.1.1.0 ∙ length-take-le _ _ (room (goal.at.After-filter_rows c).Start))) (reach (goal.at.After-filter_rows c).Start)
+    subst (λ (n : ℕ). c.args.h * (c.args.w + 7) ≤ n) (sym (c.filter_rows.auto.wide ∙ length-take-le _ _ (room (goal.at.After-filter_rows c).Start))) (reach (goal.at.After-filter_rows c).Start)
 
 whole : (c : After-filter_rows) → length (wide c ++ rest (goal.at.After-filter_rows c).Start) ≡ 400
-whole c = put_back (wide c) (replicate 400 0) (count (goal.at.After-filter_rows c).Start) c.filter_rows.auto.1.1.1.1.1.1.0
+whole c = put_back (wide c) (replicate 400 0) (count (goal.at.After-filter_rows c).Start) c.filter_rows.auto.wide
 
 pub slice_bounds-take_rows-end : goal.slice_bounds-take_rows-end
 slice_bounds-take_rows-end c = sym (whole (goal.at.slice_bounds-take_rows-end c).After-filter_rows)
