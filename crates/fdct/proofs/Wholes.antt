@@ -2,7 +2,7 @@
 -- half above it tells the nearest, a half upward. Assumes nothing.
 use mathlib.Core.Path.{◌≡◌, refl, sym, ap, ap₂, ◌∙◌, subst}
 use mathlib.Core.Bool.{Bool, true, false, ◌&&◌, ◌||◌, true≢false}
-use Prim.Native.Nat.{ℕ, zero, suc, ◌+◌, ◌-◌, ◌*◌, ◌/◌, ◌%◌, ◌^◌, ◌<◌, ◌≤◌, compare, Ordering}
+use Prim.Native.Nat.{ℕ, suc, ◌+◌, ◌-◌, ◌*◌, ◌/◌, ◌%◌, ◌^◌, ◌<◌, ◌≤◌, compare, Ordering}
 use native.Mathlib.Nat.{le_trans, le_of_eq, lt_of_not-le, not-le_of_lt, lt_of_lt_of_le, lt_of_le_of_lt, le_of_suc-le-suc}
 use native.Mathlib.Nat.{mul_assoc, mul-one, mul_right_comm, mul-pos, mod-lt, div-add-mod', add-mul, suc-mul}
 use native.Mathlib.Nat.{mul-le-mul_right, mul-lt-mul_of_pos_right, lt_of_mul-lt-mul_right, le_of_mul-le-mul_right, eq_of_mul-eq-mul_right}
@@ -11,7 +11,7 @@ use native.Mathlib.Omega.{arith}
 use borrow.Author.Tests.{ltb-true, eqb-true, lt-ltb, le-ltb}
 use lib.Arith.{lt_of_le-ne}
 use lib.Dec.{T, is_le, compare_is_eq, ltb, eqb, lit<, lit≤, leb→le, nleb→lt, eqb→eq, eqb_refl, le→leb}
-use lib.IntN.{ℤ, pos, negsuc}
+use lib.IntN.{ℤ, pos}
 use lib.Pow.{pow-add, pow_pos, pow_mono}
 use lib.Ieee.{Float, nan, inf, fin, binary64, up, down, size, nearest, units, round, neg, add, sub, sum, le, lt, eq, fits, in_signed, to_signed, in_float, of_int}
 use lib.Ieee.Digits.{size-lt, size-le}

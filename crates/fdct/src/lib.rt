@@ -1,4 +1,6 @@
 // The 8 x 8 forward transform of residuals, on doubles (rules T1 to T6): rows, then columns.
+#![tactic(auto)]
+
 ghost use Rattle.std.specs.Prelude.{◌≡◌, length};
 ghost use Rattle.basis.specs.Lists.{tabulate};
 ghost use Rattle.refusal.specs.Reply.{done};

@@ -2,7 +2,7 @@
 use Prim.Native.Nat.{ℕ, ◌<◌}
 use native.Mathlib.Omega.{arith}
 use mathlib.Core.Bool.{Bool, true, false, ◌&&◌}
-use mathlib.Core.Path.{◌≡◌, refl, sym, ap, subst, ◌∙◌}
+use mathlib.Core.Path.{◌≡◌, refl}
 use borrow.Author.Tests.{eqb-true}
 use lib.Dec.{eqb}
 use lib.ListN.{length, get_or, replicate}
@@ -12,7 +12,6 @@ use Rattle.refusal.specs.declared.Reply.TheVariants.{Done}
 use Rattle.refusal.specs.Reply.{unless, and_then}
 use Rattle.refusal.proofs.Replies.{first_done, then_done, unless-done}
 use Rattle.refusal.proofs.Tests.{and_left, and_right}
-use Rattle.record.specs.declared.MotionVector.{MotionVector}
 use Rattle.record.specs.Zero.{zero_vector}
 use Rattle.plane.specs.Reference.{vector_in_range}
 use Rattle.plane.specs.Source.{source_reply}
@@ -25,7 +24,6 @@ use Rattle.prediction.specs.Prediction.{motion_of, prediction_reply}
 use Rattle.prediction.proofs.PredictionReady.{planes_ready, prediction_done}
 use Rattle.quantise.specs.Block.{weight_reply}
 use Rattle.search.specs.declared.SearchSettings.{SearchSettings}
-use Rattle.search.specs.Range.{vector_in}
 use Rattle.search.specs.Request.{settings_reply, search_reply}
 use Rattle.search.specs.Estimate.{one_vector}
 use Rattle.search.specs.Told.{Set}

@@ -1,4 +1,6 @@
 // One macroblock: its activity, and the entries that search for it and code it, against a lent prediction or one made here.
+#![tactic(auto)]
+
 ghost use Rattle.std.specs.Prelude.{◌≡◌};
 ghost use Rattle.refusal.specs.declared.Reply.TheVariants.{Done};
 ghost use Rattle.macroblock.specs.Request.{request};

@@ -1,6 +1,6 @@
 -- The second method's quotient, by the quantiser's reciprocal. Assumes nothing.
 use Prim.Native.Nat.{ℕ, ◌+◌, ◌-◌, ◌*◌, ◌/◌, ◌%◌, ◌≤◌, ◌<◌}
-use native.Mathlib.Nat.{le_trans, lt_of_le_of_lt, mod-lt, div-add-mod', add-div_right, div-le_self, div-div-eq-div-mul}
+use native.Mathlib.Nat.{lt_of_le_of_lt, mod-lt, div-add-mod', add-div_right, div-le_self, div-div-eq-div-mul}
 use native.Mathlib.Omega.{arith}
 use mathlib.Core.Path.{◌≡◌, sym, ap, subst, ◌∙◌}
 use lib.Dec.{lit<}

@@ -14,7 +14,7 @@ use Rattle.basis.specs.Parts.{above, below}
 use Rattle.basis.proofs.Bounds.{product_le}
 use Rattle.basis.proofs.Case.{either}
 use Rattle.basis.proofs.Cut.{cut_low, cut_high, cut_none}
-use Rattle.basis.proofs.Parts.{ext, sides, size_parts, above-sub, below_sub, above-mul, below-mul, above-neg, below-neg, parts_fit, difference_high}
+use Rattle.basis.proofs.Parts.{ext, size_parts, above-sub, below_sub, above-mul, below-mul, above-neg, below-neg, parts_fit, difference_high}
 use Rattle.basis.proofs.Sizes.{size_times, signed_below}
 use Rattle.basis.specs.Cut.{cut_to}
 use Rattle.basis.specs.Signed.{signed}

@@ -1,4 +1,6 @@
 // Levels of a block for inter coding, by either method, and the inverse of the second (rules L1 to L5).
+#![tactic(auto)]
+
 ghost use Rattle.std.specs.Prelude.{◌≡◌, true, false, not, ◌||◌, length};
 ghost use Rattle.refusal.specs.declared.Reply.TheVariants.{Done};
 ghost use Rattle.refusal.specs.Reply.{done};

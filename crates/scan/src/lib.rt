@@ -1,4 +1,6 @@
 // The scan grids, scan and inverse scan of a block's levels, and its events (rules E1 to E8).
+#![tactic(auto)]
+
 ghost use Rattle.std.specs.Prelude.{◌≡◌, length};
 ghost use Rattle.refusal.specs.declared.Reply.TheVariants.{Done};
 ghost use Rattle.refusal.specs.Reply.{done};

@@ -8,7 +8,6 @@ use Rattle.refusal.specs.declared.Reply.TheVariants.{Done}
 use Rattle.refusal.specs.Reply.{unless}
 use Rattle.refusal.proofs.Replies.{joined}
 use Rattle.coding.specs.Reply.{coding_reply}
-use borrow.Author.Rules.{rules}
 use Rattle.coding.proofs.coding_reply.Goals as goal
 
 pub returns : goal.returns

@@ -2,7 +2,6 @@
 use Prim.Native.Nat.{ℕ}
 use mathlib.Core.Path.{ap₂}
 use Rattle.coding.specs.declared.Patterns.{Patterns}
-use borrow.Author.Rules.{rules}
 use Rattle.coding.proofs.inter_cbp.Goals as goal
 
 abbrev patterns : ℕ → ℕ → Patterns

@@ -6,7 +6,6 @@ use Rattle.refusal.proofs.Replies.{not_done}
 use Rattle.plane.specs.Samples.{Samples, samples}
 use Rattle.coding.specs.Reply.{residual_reply}
 use Rattle.coding.proofs.Accepted.{residual_accepted}
-use borrow.Author.Rules.{rules}
 use Rattle.coding.proofs.macroblock_residual.Goals.{In-Done, Start}
 use Rattle.coding.proofs.macroblock_residual.Goals as goal
 
@@ -27,10 +26,10 @@ macroblock_residual-requires c =
 
 pub returns-in-Refused : goal.returns-in-Refused
 returns-in-Refused c = record {
-      value = sym c.in-Refused.is ∙ c.residual_reply-reply.ensures;
-      out_after = refl;
-      residual_range = λ e. not_done _ e;
-    }
+  value = sym c.in-Refused.is ∙ c.residual_reply-reply.ensures;
+  out_after = refl;
+  residual_range = λ e. not_done _ e;
+}
 
 pub returns-in-Done : goal.returns-in-Done
 returns-in-Done c =

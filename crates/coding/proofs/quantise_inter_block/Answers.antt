@@ -8,7 +8,6 @@ use Rattle.scan.specs.declared.Events.{Events}
 use Rattle.coding.specs.Coding.{Quantising, quantising_of}
 use Rattle.coding.specs.Reply.{coding_reply, block_events}
 use Rattle.coding.proofs.Accepted.{coding_accepted}
-use borrow.Author.Rules.{rules}
 use Rattle.coding.proofs.quantise_inter_block.Goals.{In-Done, Start}
 use Rattle.coding.proofs.quantise_inter_block.Goals as goal
 

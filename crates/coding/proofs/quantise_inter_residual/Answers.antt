@@ -9,7 +9,6 @@ use Rattle.coding.specs.declared.Counted.{Counted}
 use Rattle.coding.specs.Coding.{Quantising, quantising_of}
 use Rattle.coding.specs.Reply.{coding_reply, residual_events}
 use Rattle.coding.proofs.Accepted.{coding_accepted}
-use borrow.Author.Rules.{rules}
 use Rattle.coding.proofs.quantise_inter_residual.Goals.{In-Done, Start}
 use Rattle.coding.proofs.quantise_inter_residual.Goals as goal
 

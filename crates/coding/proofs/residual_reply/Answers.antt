@@ -1,6 +1,5 @@
 -- `coding::residual_reply` meets its contract.
 use Rattle.coding.specs.Reply.{residual_reply}
-use borrow.Author.Rules.{rules}
 use Rattle.coding.proofs.residual_reply.Goals as goal
 
 pub returns : goal.returns

@@ -6,7 +6,6 @@ use Rattle.refusal.specs.declared.Reply.TheVariants.{Done}
 use Rattle.refusal.specs.Reply.{unless}
 use Rattle.refusal.proofs.Replies.{joined}
 use Rattle.fdct.specs.Reply.{dct_reply}
-use borrow.Author.Rules.{rules}
 use Rattle.fdct.proofs.dct_reply.Goals as goal
 
 pub returns : goal.returns

@@ -1,5 +1,4 @@
 -- `fdct::forward_dct_8x8` meets its contract.
-use borrow.Author.Rules.{rules}
 use mathlib.Core.Path.{◌≡◌, refl, sym, ◌∙◌}
 use lib.ListN.{length}
 use Rattle.refusal.specs.declared.Reply.TheVariants.{Done}
@@ -17,12 +16,12 @@ transform-requires c = lengths _ _ (accepted (goal.at.transform-requires c).In-D
 
 pub returns-in-Refused : goal.returns-in-Refused
 returns-in-Refused c = record {
-      value = sym c.in-Refused.is ∙ c.dct_reply-reply.ensures;
-      out_after = refl;
-    }
+  value = sym c.in-Refused.is ∙ c.dct_reply-reply.ensures;
+  out_after = refl;
+}
 
 pub returns-in-Done : goal.returns-in-Done
 returns-in-Done c = record {
-      value = sym (accepted (goal.at.returns-in-Done c).In-Done);
-      out_after = c.transform.ensures;
-    }
+  value = sym (accepted (goal.at.returns-in-Done c).In-Done);
+  out_after = c.transform.ensures;
+}

@@ -1,13 +1,8 @@
 -- `fdct::to_doubles` meets its contract.
-use borrow.Author.Rules.{rules}
-use Prim.Native.Nat.{ℕ, ◌-◌, ◌≤◌}
-use native.Mathlib.Omega.{arith}
-use mathlib.Core.Path.{◌≡◌, sym, ap, ◌∙◌}
-use lib.Ieee.{binary64, of_int}
+use Prim.Native.Nat.{◌≤◌}
+use mathlib.Core.Path.{◌≡◌}
 use lib.ListN.{length}
-use Rattle.basis.specs.Lists.{tabulate}
-use Rattle.basis.proofs.Lists.{filled, filled_none, filled_set, filled_end}
-use Rattle.basis.proofs.Signed.{of_bits_lem}
+use Rattle.basis.proofs.Lists.{filled}
 use Rattle.fdct.specs.Told.{sample_at}
 use Rattle.fdct.proofs.to_doubles.Given as goal
 

@@ -1,5 +1,4 @@
 -- `fdct::transform` meets its contract. Both tables of constants are held to the rule in m by computing, all 64 entries.
-use borrow.Author.Rules.{rules}
 use mathlib.Core.Path.{refl, ◌∙◌}
 use lib.Ieee.{of_bits}
 use Rattle.fdct.specs.Cosine.{cosines}

@@ -1,12 +1,8 @@
 -- `fdct::write_out` meets its contract.
-use borrow.Author.Rules.{rules}
-use Prim.Native.Nat.{ℕ, ◌-◌, ◌≤◌}
-use native.Mathlib.Omega.{arith}
-use mathlib.Core.Path.{◌≡◌, sym, ap, ◌∙◌}
+use Prim.Native.Nat.{◌≤◌}
+use mathlib.Core.Path.{◌≡◌}
 use lib.ListN.{length}
-use Rattle.basis.specs.Lists.{tabulate}
-use Rattle.basis.proofs.Lists.{filled, filled_none, filled_set, filled_end}
-use Rattle.basis.proofs.Signed.{of_bits_lem}
+use Rattle.basis.proofs.Lists.{filled}
 use Rattle.fdct.specs.Told.{entries}
 use Rattle.fdct.specs.Rounding.{coefficient_of}
 use Rattle.fdct.proofs.write_out.Given as goal

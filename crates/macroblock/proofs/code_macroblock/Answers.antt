@@ -6,7 +6,6 @@ use Rattle.macroblock.specs.Request.{Request, request, replyOf}
 use Rattle.macroblock.specs.Demand.{Demand}
 use Rattle.macroblock.proofs.Answers.{refused_answer, done_answer}
 use Rattle.macroblock.proofs.Demanded.{demanded}
-use borrow.Author.Rules.{rules}
 use Rattle.macroblock.proofs.code_macroblock.Goals.{After-request_reply, In-Done, Start}
 use Rattle.macroblock.proofs.code_macroblock.Goals as goal
 

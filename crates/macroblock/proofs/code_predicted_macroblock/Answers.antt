@@ -5,7 +5,6 @@ use Rattle.refusal.proofs.Replies.{not_done}
 use Rattle.macroblock.specs.Predicted.{PredictedRequest, PredictedDemand, predicted_request, predicted_reply_of, predicting}
 use Rattle.macroblock.proofs.Answers.{refused_answer, done_answer}
 use Rattle.macroblock.proofs.PredictedDemanded.{predicted_demanded}
-use borrow.Author.Rules.{rules}
 use Rattle.macroblock.proofs.code_predicted_macroblock.Goals.{After-predicted_reply, In-Done, Start}
 use Rattle.macroblock.proofs.code_predicted_macroblock.Goals as goal
 

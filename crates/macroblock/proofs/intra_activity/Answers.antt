@@ -10,7 +10,6 @@ use Rattle.plane.specs.Reference.{length_reply}
 use Rattle.plane.specs.Source.{source_luma_reply, source_luma}
 use Rattle.macroblock.specs.declared.Activity.{Activity}
 use Rattle.macroblock.specs.Activities.{activity_of, intra_activity}
-use borrow.Author.Rules.{rules}
 use Rattle.macroblock.proofs.intra_activity.Goals.{After-luma_block, Start}
 use Rattle.macroblock.proofs.intra_activity.Goals as goal
 

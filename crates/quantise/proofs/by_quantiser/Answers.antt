@@ -1,15 +1,13 @@
 -- `quantise::by_quantiser` meets its contract.
-use borrow.Author.Rules.{rules}
-use Prim.Native.Nat.{◌-◌}
 use native.Mathlib.Omega.{arith}
 use mathlib.Core.Bool.{false}
 use mathlib.Core.Path.{sym, ◌∙◌}
 use lib.IntN.{pos}
 use lib.ListN.{length, get_or}
-use Rattle.quantise.specs.Block.{level_at, block_levels}
+use Rattle.quantise.specs.Block.{block_levels}
 use Rattle.quantise.proofs.Accepted.{Sound, sound}
 use Rattle.quantise.specs.Level.{level_by_quantiser}
-use Rattle.quantise.proofs.Storing.{StoredSoFar, stored_none, stored_long, stored_more, stored_all, read_small, read_made}
+use Rattle.quantise.proofs.Storing.{stored_none, stored_long, stored_more, stored_all, read_small, read_made}
 use Rattle.quantise.proofs.by_quantiser.Goals.{Start}
 use Rattle.quantise.proofs.by_quantiser.Goals as goal
 
@@ -23,9 +21,8 @@ loop-i-init c = stored_none _ _ (good (goal.at.loop-i-init c).Start).area_long
 pub reciprocal-by-requires : goal.reciprocal-by-requires
 reciprocal-by-requires c = ((good (goal.at.reciprocal-by-requires c).Start).low, (good (goal.at.reciprocal-by-requires c).Start).high)
 
-shared_slice_copy_out_quantise_method2_inter :
-    UNKNOWN-Need-shared-slice-copy-out-quantise-method2-inter
-shared_slice_copy_out_quantise_method2_inter c = omega (arith, (good c.before.before.before.before).long)
+pub bounds-coefficients-i : goal.bounds-coefficients-i
+bounds-coefficients-i c = omega (arith, (good (goal.at.bounds-coefficients-i c).Start).long)
 
 pub quantise_method2_inter-requires : goal.quantise_method2_inter-requires
 quantise_method2_inter-requires c =

@@ -1,15 +1,13 @@
 -- `quantise::by_weights` meets its contract.
-use borrow.Author.Rules.{rules}
-use Prim.Native.Nat.{◌-◌}
 use native.Mathlib.Omega.{arith}
 use mathlib.Core.Bool.{true}
 use mathlib.Core.Path.{refl, sym, ◌∙◌}
 use lib.IntN.{pos}
 use lib.ListN.{length, get_or}
-use Rattle.quantise.specs.Block.{level_at, block_levels}
+use Rattle.quantise.specs.Block.{block_levels}
 use Rattle.quantise.proofs.Accepted.{Sound, sound, weight_some}
 use Rattle.quantise.specs.Level.{level_by_weight}
-use Rattle.quantise.proofs.Storing.{StoredSoFar, stored_none, stored_long, stored_more, stored_all, read_small, read_made}
+use Rattle.quantise.proofs.Storing.{stored_none, stored_long, stored_more, stored_all, read_small, read_made}
 use Rattle.quantise.proofs.by_weights.Goals.{Start}
 use Rattle.quantise.proofs.by_weights.Goals as goal
 
@@ -20,13 +18,11 @@ good s = sound s.args.coefficients.now s.args.quantiser true s.args.weights.now 
 pub loop-i-init : goal.loop-i-init
 loop-i-init c = stored_none _ _ (good (goal.at.loop-i-init c).Start).area_long
 
-shared_slice_copy_out_quantise_method1_inter :
-    UNKNOWN-Need-shared-slice-copy-out-quantise-method1-inter
-shared_slice_copy_out_quantise_method1_inter c = omega (arith, (good c.before.before.before).long)
+pub bounds-coefficients-i : goal.bounds-coefficients-i
+bounds-coefficients-i c = omega (arith, (good (goal.at.bounds-coefficients-i c).Start).long)
 
-shared_slice_read_quantise_method1_inter :
-    UNKNOWN-Need-shared-slice-read-quantise-method1-inter
-shared_slice_read_quantise_method1_inter c = omega (arith, (good c.before.before.before.before.before).weights_long)
+pub bounds-weights-i : goal.bounds-weights-i
+bounds-weights-i c = omega (arith, (good (goal.at.bounds-weights-i c).Start).weights_long)
 
 pub quantise_method1_inter-requires : goal.quantise_method1_inter-requires
 quantise_method1_inter-requires c =

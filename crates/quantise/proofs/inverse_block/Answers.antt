@@ -3,7 +3,6 @@ use mathlib.Core.Path.{◌≡◌, refl, sym, ◌∙◌}
 use lib.ListN.{length}
 use Rattle.refusal.specs.declared.Reply.TheVariants.{Done}
 use Rattle.quantise.specs.Block.{inverse_reply}
-use borrow.Author.Rules.{rules}
 use Rattle.quantise.proofs.inverse_block.Goals.{In-Done}
 use Rattle.quantise.proofs.inverse_block.Goals as goal
 
@@ -16,12 +15,12 @@ inverse_ready-requires c = accepted (goal.at.inverse_ready-requires c).In-Done
 
 pub returns-in-Refused : goal.returns-in-Refused
 returns-in-Refused c = record {
-      value = sym c.in-Refused.is ∙ c.inverse_reply-reply.ensures;
-      out_after = refl;
-    }
+  value = sym c.in-Refused.is ∙ c.inverse_reply-reply.ensures;
+  out_after = refl;
+}
 
 pub returns-in-Done : goal.returns-in-Done
 returns-in-Done c = record {
-      value = sym (accepted (goal.at.returns-in-Done c).In-Done);
-      out_after = c.inverse_ready.ensures;
-    }
+  value = sym (accepted (goal.at.returns-in-Done c).In-Done);
+  out_after = c.inverse_ready.ensures;
+}

@@ -1,14 +1,12 @@
 -- `quantise::inverse_ready` meets its contract.
-use borrow.Author.Rules.{rules}
-use Prim.Native.Nat.{◌-◌}
 use native.Mathlib.Omega.{arith}
 use mathlib.Core.Path.{sym, ◌∙◌}
 use lib.IntN.{pos}
 use lib.ListN.{length, get_or}
 use Rattle.quantise.specs.Level.{inverse_by_quantiser}
-use Rattle.quantise.specs.Block.{second_inverse, inverse_at, block_inverse}
+use Rattle.quantise.specs.Block.{block_inverse}
 use Rattle.quantise.proofs.Accepted.{SoundInverse, sound_inverse}
-use Rattle.quantise.proofs.Storing.{StoredSoFar, stored_none, stored_long, stored_more, stored_all, read_small, read_made}
+use Rattle.quantise.proofs.Storing.{stored_none, stored_long, stored_more, stored_all, read_small, read_made}
 use Rattle.quantise.proofs.inverse_ready.Goals.{Start}
 use Rattle.quantise.proofs.inverse_ready.Goals as goal
 
@@ -19,9 +17,8 @@ good s = sound_inverse s.args.levels.now s.args.quantiser (length s.args.out.now
 pub loop-i-init : goal.loop-i-init
 loop-i-init c = stored_none _ _ (good (goal.at.loop-i-init c).Start).area_long
 
-shared_slice_copy_out_inverse_quant_method2_coef :
-    UNKNOWN-Need-shared-slice-copy-out-inverse-quant-method2-coef
-shared_slice_copy_out_inverse_quant_method2_coef c = omega (arith, (good c.before.before).long)
+pub bounds-levels-i : goal.bounds-levels-i
+bounds-levels-i c = omega (arith, (good (goal.at.bounds-levels-i c).Start).long)
 
 pub inverse_quant_method2_coef-requires : goal.inverse_quant_method2_coef-requires
 inverse_quant_method2_coef-requires c =

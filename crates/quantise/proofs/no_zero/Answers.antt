@@ -1,13 +1,11 @@
 -- `quantise::no_zero` meets its contract.
 use borrow.Author.Rules.{rules}
-use Prim.Native.Nat.{ℕ, ◌-◌, ◌≤◌}
+use Prim.Native.Nat.{ℕ}
 use native.Mathlib.Omega.{arith}
-use mathlib.Core.Bool.{not, ◌&&◌}
-use mathlib.Core.Path.{◌≡◌, refl}
+use mathlib.Core.Bool.{not}
+use mathlib.Core.Path.{refl}
 use lib.Dec.{eqb}
-use lib.ListN.{length, drop}
 use Rattle.refusal.proofs.Every.{every_more, every_end}
-use Rattle.quantise.specs.Block.{no_zero}
 use Rattle.quantise.proofs.no_zero.Goals as goal
 
 pub loop-i-init : goal.loop-i-init

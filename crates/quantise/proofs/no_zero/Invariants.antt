@@ -1,12 +1,8 @@
 -- `quantise::no_zero` meets its contract.
-use borrow.Author.Rules.{rules}
-use Prim.Native.Nat.{ℕ, ◌-◌, ◌≤◌}
-use native.Mathlib.Omega.{arith}
-use mathlib.Core.Bool.{not, ◌&&◌}
-use mathlib.Core.Path.{◌≡◌, refl}
-use lib.Dec.{eqb}
+use Prim.Native.Nat.{◌≤◌}
+use mathlib.Core.Bool.{◌&&◌}
+use mathlib.Core.Path.{◌≡◌}
 use lib.ListN.{length, drop}
-use Rattle.refusal.proofs.Every.{every_more, every_end}
 use Rattle.quantise.specs.Block.{no_zero}
 use Rattle.quantise.proofs.no_zero.Given as goal
 

@@ -7,7 +7,6 @@ use Rattle.refusal.proofs.Replies.{not_done}
 use Rattle.quantise.specs.Block.{block_levels, quantise_reply}
 use Rattle.quantise.specs.Near.{NearAll}
 use Rattle.quantise.proofs.Near.{near_by_method}
-use borrow.Author.Rules.{rules}
 use Rattle.quantise.proofs.quantise_block.Goals.{In-Done}
 use Rattle.quantise.proofs.quantise_block.Goals as goal
 
@@ -29,10 +28,10 @@ quantise_ready-requires c = accepted (goal.at.quantise_ready-requires c).In-Done
 
 pub returns-in-Refused : goal.returns-in-Refused
 returns-in-Refused c = record {
-      value = sym c.in-Refused.is ∙ c.quantise_reply-reply.ensures;
-      out_after = refl;
-      near_all = λ e. not_done _ e;
-    }
+  value = sym c.in-Refused.is ∙ c.quantise_reply-reply.ensures;
+  out_after = refl;
+  near_all = λ e. not_done _ e;
+}
 
 pub returns-in-Done : goal.returns-in-Done
 returns-in-Done c =

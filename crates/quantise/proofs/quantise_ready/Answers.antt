@@ -4,7 +4,6 @@ use mathlib.Core.Path.{◌≡◌, sym, ap, ◌∙◌}
 use lib.ListN.{length}
 use Rattle.refusal.specs.declared.Reply.TheVariants.{Done}
 use Rattle.quantise.specs.Block.{block_levels, quantise_reply}
-use borrow.Author.Rules.{rules}
 use Rattle.quantise.proofs.quantise_ready.Goals.{Start}
 use Rattle.quantise.proofs.quantise_ready.Goals as goal
 

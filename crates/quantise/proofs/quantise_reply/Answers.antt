@@ -9,7 +9,6 @@ use Rattle.refusal.specs.declared.Reply.TheVariants.{Done}
 use Rattle.refusal.specs.Reply.{unless}
 use Rattle.refusal.proofs.Replies.{joined}
 use Rattle.quantise.specs.Block.{quantise_reply}
-use borrow.Author.Rules.{rules}
 use Rattle.quantise.proofs.quantise_reply.Goals as goal
 
 pub returns : goal.returns

@@ -1,6 +1,5 @@
 -- `quantise::weight_reply` meets its contract.
 use Rattle.quantise.specs.Block.{weight_reply}
-use borrow.Author.Rules.{rules}
 use Rattle.quantise.proofs.weight_reply.Goals as goal
 
 pub returns : goal.returns

@@ -8,7 +8,6 @@ use Rattle.refusal.specs.declared.Reply.{Reply}
 use Rattle.refusal.specs.declared.Reply.TheVariants.{Done}
 use Rattle.refusal.specs.Reply.{unless}
 use Rattle.scan.specs.Reply.{events_reply}
-use borrow.Author.Rules.{rules}
 use Rattle.scan.proofs.events_reply.Goals as goal
 
 pub returns : goal.returns

@@ -1,7 +1,6 @@
 -- `scan::inter_scan` meets its contract.
 use mathlib.Core.Path.{sym, ◌∙◌}
 use Rattle.basis.proofs.Case.{then, else}
-use borrow.Author.Rules.{rules}
 use Rattle.scan.proofs.inter_scan.Goals as goal
 
 pub returns-then-both : goal.returns-then-both

@@ -1,13 +1,13 @@
 -- `scan::inverse_ready` meets its contract.
 use borrow.Author.Rules.{rules}
-use Prim.Native.Nat.{ℕ, ◌-◌, ◌≤◌, ◌<◌}
+use Prim.Native.Nat.{ℕ, ◌<◌}
 use native.Mathlib.Omega.{arith}
 use mathlib.Core.List.{List}
 use mathlib.Core.Path.{◌≡◌, sym, ap, subst, ◌∙◌}
 use lib.IntN.{ℤ, pos}
 use lib.ListN.{length, get_or}
 use Rattle.basis.specs.Lists.{tabulate}
-use Rattle.basis.proofs.Lists.{filled, filled_none, filled_set, filled_end}
+use Rattle.basis.proofs.Lists.{filled_none, filled_set, filled_end}
 use Rattle.basis.proofs.Signed.{of_bits_lem}
 use Rattle.scan.specs.Grid.{entry_at, unscanned, Permutes}
 use Rattle.scan.proofs.Accepted.{scan_lengths}

@@ -1,17 +1,10 @@
 -- `scan::inverse_ready` meets its contract.
-use borrow.Author.Rules.{rules}
-use Prim.Native.Nat.{ℕ, ◌-◌, ◌≤◌, ◌<◌}
-use native.Mathlib.Omega.{arith}
-use mathlib.Core.List.{List}
-use mathlib.Core.Path.{◌≡◌, sym, ap, subst, ◌∙◌}
-use lib.IntN.{ℤ, pos}
+use Prim.Native.Nat.{◌≤◌}
+use mathlib.Core.Path.{◌≡◌}
+use lib.IntN.{pos}
 use lib.ListN.{length, get_or}
-use Rattle.basis.specs.Lists.{tabulate}
-use Rattle.basis.proofs.Lists.{filled, filled_none, filled_set, filled_end}
-use Rattle.basis.proofs.Signed.{of_bits_lem}
-use Rattle.scan.specs.Grid.{entry_at, unscanned, Permutes}
-use Rattle.scan.proofs.Accepted.{scan_lengths}
-use Rattle.scan.proofs.Grids.{permutes}
+use Rattle.basis.proofs.Lists.{filled}
+use Rattle.scan.specs.Grid.{entry_at}
 use Rattle.scan.proofs.inverse_ready.Given as goal
 
 abbrev pub invariant-loop-p : goal.invariant-loop-p

@@ -7,7 +7,6 @@ use Rattle.scan.specs.Grid.{grid_of, scanned}
 use Rattle.scan.specs.Reply.{scan_reply}
 use Rattle.scan.proofs.Accepted.{scan_lengths}
 use Rattle.scan.proofs.Grids.{returns as returns_to}
-use borrow.Author.Rules.{rules}
 use Rattle.scan.proofs.inverse_scan.Goals.{In-Done}
 use Rattle.scan.proofs.inverse_scan.Goals as goal
 
@@ -20,10 +19,10 @@ inverse_ready-requires c = accepted (goal.at.inverse_ready-requires c).In-Done
 
 pub returns-in-Refused : goal.returns-in-Refused
 returns-in-Refused c = record {
-      value = sym c.in-Refused.is ∙ c.scan_reply-reply.ensures;
-      out_after = refl;
-      out_after_2 = λ e. not_done _ e;
-    }
+  value = sym c.in-Refused.is ∙ c.scan_reply-reply.ensures;
+  out_after = refl;
+  out_after_2 = λ e. not_done _ e;
+}
 
 pub returns-in-Done : goal.returns-in-Done
 returns-in-Done c =

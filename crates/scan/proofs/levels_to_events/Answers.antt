@@ -14,7 +14,6 @@ use Rattle.scan.specs.Reply.{events_reply, events_answer}
 use Rattle.scan.specs.Told.{SixtyFours}
 use Rattle.scan.proofs.Accepted.{events_lengths}
 use Rattle.scan.proofs.ReadBack.{reads_back}
-use borrow.Author.Rules.{rules}
 use Rattle.scan.proofs.levels_to_events.Goals.{After-fill_events-count, In-Done}
 use Rattle.scan.proofs.levels_to_events.Goals as goal
 

@@ -6,7 +6,6 @@ use Rattle.refusal.specs.declared.Reply.{Reply}
 use Rattle.refusal.specs.declared.Reply.TheVariants.{Done}
 use Rattle.refusal.specs.Reply.{unless}
 use Rattle.scan.specs.Reply.{scan_reply}
-use borrow.Author.Rules.{rules}
 use Rattle.scan.proofs.scan_reply.Goals as goal
 
 pub returns : goal.returns

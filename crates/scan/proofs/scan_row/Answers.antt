@@ -1,6 +1,6 @@
 -- `scan::scan_row` meets its contract.
 use borrow.Author.Rules.{rules}
-use Prim.Native.Nat.{ℕ, ◌-◌, ◌<◌, ◌≤◌}
+use Prim.Native.Nat.{ℕ, ◌<◌}
 use native.Mathlib.Omega.{arith}
 use mathlib.Core.Path.{◌≡◌, refl, ap, ◌∙◌}
 use lib.ListN.{length, get_or}
@@ -11,11 +11,11 @@ use Rattle.scan.proofs.scan_row.Goals.{At-loop-x, In-loop-x}
 use Rattle.scan.proofs.scan_row.Goals as goal
 
 -- the place that is read from the row is one of the 64, and the area still has them
-k-below : (c : In-loop-x) → get_or c.args.t1 c.loop-x.x 0 < 64
+k-below : (c : In-loop-x) → get_or c.args.row c.loop-x.x 0 < 64
 k-below c = c.requires.below c.loop-x.x c.loop-x-test.true
 
 long : (c : At-loop-x) → length c.loop-x.out ≡ length c.args.out.now
-long c = ap length c.loop-x.invariant.1 ∙ length_put c.args.t1 c.args.levels.now c.loop-x.x c.args.out.now
+long c = ap length c.loop-x.invariant.1 ∙ length_put c.args.row c.args.levels.now c.loop-x.x c.args.out.now
 
 pub loop-x-init : goal.loop-x-init
 unfolding put_row
@@ -36,7 +36,7 @@ bounds-out-k c = omega (arith, k-below (goal.at.bounds-out-k c).In-loop-x, long 
 pub loop-x-preserved : goal.loop-x-preserved
 loop-x-preserved c =
     let a = c.args in
-    (search rules, put_more a.t1 a.levels.now a.out.now c.loop-x.out c.loop-x.x _ c.loop-x.invariant.1 (of_bits_lem _ c.out-1.given))
+    (search rules, put_more a.row a.levels.now a.out.now c.loop-x.out c.loop-x.x _ c.loop-x.invariant.1 (of_bits_lem _ c.out-1.given))
 
 pub shape_of-out : goal.shape_of-out
 shape_of-out c = long (goal.at.shape_of-out c).At-loop-x
@@ -45,4 +45,4 @@ pub returns : goal.returns
 returns c =
     let a = c.args in
     let end : c.loop-x.x ≡ 8 = omega arith in
-    c.loop-x.invariant.1 ∙ ap (λ (n : ℕ). put_row a.t1 a.levels.now n a.out.now) end
+    c.loop-x.invariant.1 ∙ ap (λ (n : ℕ). put_row a.row a.levels.now n a.out.now) end

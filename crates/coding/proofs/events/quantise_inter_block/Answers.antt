@@ -13,7 +13,6 @@ use Rattle.scan.specs.Reply.{scan_reply, events_reply}
 use Rattle.coding.specs.Coding.{Quantising, quantising_of, quantised, in_scan}
 use Rattle.coding.proofs.Levels.{same_areas}
 use Rattle.coding.proofs.BlockCoding.{transform_done, quantise_done, scan_done, events-done, events_reply_lem, events_count}
-use borrow.Author.Rules.{rules}
 use Rattle.coding.proofs.events.quantise_inter_block.Goals.{After-forward_dct_8x8, After-forward_scan, After-quantise_block, Start}
 use Rattle.coding.proofs.events.quantise_inter_block.Goals as goal
 

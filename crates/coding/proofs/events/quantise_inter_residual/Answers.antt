@@ -1,10 +1,9 @@
 -- `coding::events::quantise_inter_residual` meets its contract.
-use Prim.Native.Nat.{◌-◌}
 use native.Mathlib.Omega.{arith}
 use mathlib.Core.Path.{refl, sym, ◌∙◌}
 use lib.ListN.{length-take, length-drop}
 use Rattle.coding.specs.Coding.{Quantising, quantising_of}
-use Rattle.coding.proofs.Filling.{CodedSoFar, coded_none, coded_more, coded_end, part_in_range}
+use Rattle.coding.proofs.Filling.{coded_none, coded_more, coded_end, part_in_range}
 use Rattle.coding.proofs.events.quantise_inter_residual.Goals.{Start}
 use Rattle.coding.proofs.events.quantise_inter_residual.Goals as goal
 

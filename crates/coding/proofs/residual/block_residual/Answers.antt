@@ -3,7 +3,6 @@ use mathlib.Core.Path.{◌∙◌}
 use borrow.Author.Tests.{lt-ltb, le-ltb, eq-eqb, ne_eqb}
 use Rattle.plane.specs.Samples.{Samples, samples}
 use Rattle.coding.proofs.SixBlocks.{luma_block, blue_block, red_block}
-use borrow.Author.Rules.{rules}
 use Rattle.coding.proofs.residual.block_residual.Goals.{Start}
 use Rattle.coding.proofs.residual.block_residual.Goals as goal
 

@@ -1,15 +1,11 @@
 -- `coding::residual::chroma_residual` meets its contract.
-use borrow.Author.Rules.{rules}
-use Prim.Native.Nat.{ℕ, ◌-◌}
 use native.Mathlib.Omega.{arith}
 use mathlib.Core.Bool.{true}
 use mathlib.Core.Path.{◌≡◌, sym, subst, ◌∙◌}
-use mathlib.Core.List.{List}
-use lib.IntN.{ℤ, pos, negsuc, ◌-ℤ◌}
-use lib.ListN.{get_or}
+use lib.IntN.{ℤ, pos, negsuc}
 use Rattle.basis.proofs.Signed.{of_bits_lem}
 use Rattle.refusal.specs.Test.{in_range}
-use Rattle.coding.proofs.Differences.{ResidualSoFar, stored_none, stored_more, stored_end}
+use Rattle.coding.proofs.Differences.{stored_none, stored_more, stored_end}
 use Rattle.coding.proofs.residual.chroma_residual.Invariants.{less_at}
 use Rattle.coding.proofs.residual.chroma_residual.Goals as goal
 
@@ -35,4 +31,6 @@ pub shape_of-out : goal.shape_of-out
 shape_of-out c = c.loop-k.invariant.long ∙ sym c.loop-k.invariant.was
 
 pub returns : goal.returns
-returns c = stored_end _ _ _ c.loop-k.k c.loop-k.invariant (omega arith)
+returns c =
+    let all = stored_end _ _ _ c.loop-k.k c.loop-k.invariant (omega arith) in
+    record { out_after = all.0; residual_range = all.1 }

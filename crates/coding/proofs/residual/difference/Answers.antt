@@ -6,7 +6,6 @@ use lib.IntN.{ℤ, pos, negsuc}
 use Rattle.basis.proofs.Signed.{minus_fits}
 use Rattle.refusal.specs.Test.{in_range}
 use Rattle.coding.proofs.Differences.{difference_read, difference_in}
-use borrow.Author.Rules.{rules}
 use Rattle.coding.proofs.residual.difference.Goals as goal
 
 pub overflow_sub-result : goal.overflow_sub-result

@@ -1,15 +1,9 @@
 -- `coding::residual::luma_residual` meets its contract.
-use borrow.Author.Rules.{rules}
-use Prim.Native.Nat.{ℕ, ◌-◌}
-use native.Mathlib.Omega.{arith}
-use mathlib.Core.Bool.{true}
-use mathlib.Core.Path.{◌≡◌, sym, ap₂, subst, ◌∙◌}
+use Prim.Native.Nat.{ℕ}
 use mathlib.Core.List.{List}
-use lib.IntN.{ℤ, pos, negsuc, ◌-ℤ◌}
+use lib.IntN.{ℤ, pos, ◌-ℤ◌}
 use lib.ListN.{get_or}
-use Rattle.basis.proofs.Signed.{of_bits_lem}
-use Rattle.refusal.specs.Test.{in_range}
-use Rattle.coding.proofs.Differences.{ResidualSoFar, stored_none, stored_more, stored_end, eight_at}
+use Rattle.coding.proofs.Differences.{ResidualSoFar}
 use Rattle.plane.specs.Source.{eight_of}
 use Rattle.coding.proofs.residual.luma_residual.Given as goal
 

@@ -6,7 +6,6 @@ use Rattle.plane.specs.Source.{source_luma, source_chroma}
 use Rattle.plane.specs.Samples.{samples}
 use Rattle.coding.specs.Residual.{residual_of}
 use Rattle.plane.proofs.ReadySource.{luma_alone, blue_alone, red_alone, luma_is, chroma_is}
-use borrow.Author.Rules.{rules}
 use Rattle.coding.proofs.residual.macroblock_residual.Goals.{After-chroma_block, After-chroma_block-2, After-luma_block, Start}
 use Rattle.coding.proofs.residual.macroblock_residual.Goals as goal
 

@@ -1,12 +1,12 @@
 -- `coding::residual::six_residuals` meets its contract.
 use borrow.Author.Count.{below_more}
-use Prim.Native.Nat.{ℕ, ◌-◌, ◌≤◌, ◌<◌}
+use Prim.Native.Nat.{ℕ, ◌<◌}
 use native.Mathlib.Omega.{arith}
 use mathlib.Core.List.{List}
 use mathlib.Core.Path.{◌≡◌, sym, subst}
 use lib.IntN.{ℤ}
 use lib.ListN.{length, length-take, length-drop}
-use Rattle.basis.proofs.Lists.{laid, laid_none, laid_put, laid_end}
+use Rattle.basis.proofs.Lists.{laid_none, laid_put, laid_end}
 use Rattle.basis.specs.Lists.{rows}
 use Rattle.plane.specs.Samples.{Samples, samples}
 use Rattle.coding.specs.Residual.{samples_of, residual_of, ResidualRange}

@@ -1,16 +1,11 @@
 -- `coding::residual::six_residuals` meets its contract.
-use borrow.Author.Count.{below_more}
-use Prim.Native.Nat.{ℕ, ◌-◌, ◌≤◌, ◌<◌}
-use native.Mathlib.Omega.{arith}
-use mathlib.Core.List.{List}
-use mathlib.Core.Path.{◌≡◌, sym, subst}
-use lib.IntN.{ℤ}
-use lib.ListN.{length, length-take, length-drop}
-use Rattle.basis.proofs.Lists.{laid, laid_none, laid_put, laid_end}
-use Rattle.basis.specs.Lists.{rows}
-use Rattle.plane.specs.Samples.{Samples, samples}
-use Rattle.coding.specs.Residual.{samples_of, residual_of, ResidualRange}
-use Rattle.coding.proofs.SixBlocks.{residual_at, block_length, six_in_range}
+use Prim.Native.Nat.{ℕ, ◌≤◌, ◌<◌}
+use mathlib.Core.Path.{◌≡◌}
+use lib.ListN.{length}
+use Rattle.basis.proofs.Lists.{laid}
+use Rattle.plane.specs.Samples.{samples}
+use Rattle.coding.specs.Residual.{ResidualRange}
+use Rattle.coding.proofs.SixBlocks.{residual_at}
 use Rattle.coding.proofs.residual.six_residuals.Given as goal
 
 abbrev pub invariant-loop-b : goal.invariant-loop-b

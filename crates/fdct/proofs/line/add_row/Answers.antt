@@ -1,14 +1,8 @@
 -- `fdct::line::add_row` meets its contract.
 use borrow.Author.Rules.{rules}
-use Prim.Native.Nat.{ℕ, ◌+◌, ◌-◌, ◌*◌, ◌≤◌}
 use native.Mathlib.Omega.{arith}
-use mathlib.Core.List.{List}
-use mathlib.Core.Path.{◌≡◌, refl, sym}
-use lib.Ieee.{Float, binary64, add, mul}
-use lib.ListN.{length}
-use Rattle.basis.proofs.Lists.{filled, filled_none, filled_set, filled_end}
-use Rattle.fdct.specs.Told.{entries}
-use Rattle.fdct.proofs.line.add_row.Invariants.{sum_at}
+use mathlib.Core.Path.{refl, sym}
+use Rattle.basis.proofs.Lists.{filled_none, filled_set, filled_end}
 use Rattle.fdct.proofs.line.add_row.Goals as goal
 
 pub loop-j-init : goal.loop-j-init

@@ -1,12 +1,10 @@
 -- `fdct::line::add_row` meets its contract.
-use borrow.Author.Rules.{rules}
-use Prim.Native.Nat.{ℕ, ◌+◌, ◌-◌, ◌*◌, ◌≤◌}
-use native.Mathlib.Omega.{arith}
+use Prim.Native.Nat.{ℕ, ◌+◌, ◌*◌, ◌≤◌}
 use mathlib.Core.List.{List}
-use mathlib.Core.Path.{◌≡◌, refl, sym}
+use mathlib.Core.Path.{◌≡◌}
 use lib.Ieee.{Float, binary64, add, mul}
 use lib.ListN.{length}
-use Rattle.basis.proofs.Lists.{filled, filled_none, filled_set, filled_end}
+use Rattle.basis.proofs.Lists.{filled}
 use Rattle.fdct.specs.Told.{entries}
 use Rattle.fdct.proofs.line.add_row.Given as goal
 

@@ -1,16 +1,12 @@
 -- `fdct::line::fdct_1d_columns` meets its contract.
 use borrow.Author.Rules.{rules}
-use Prim.Native.Nat.{ℕ, ◌-◌, ◌*◌, ◌≤◌}
+use Prim.Native.Nat.{◌*◌}
 use native.Mathlib.Omega.{arith}
-use mathlib.Core.List.{List}
-use mathlib.Core.Path.{◌≡◌, sym, ap}
-use lib.Ieee.{Float, binary64, mul, of_bits}
-use lib.ListN.{length}
-use Rattle.basis.specs.Lists.{tabulate}
-use Rattle.basis.proofs.Lists.{length-tabulate, laid, laid_none, laid_put, laid_end}
+use mathlib.Core.Path.{sym, ap}
+use lib.Ieee.{binary64, mul, of_bits}
+use Rattle.basis.proofs.Lists.{length-tabulate, laid_none, laid_put, laid_end}
 use Rattle.basis.proofs.Slices.{part_length}
 use Rattle.fdct.specs.Double.{half_double}
-use Rattle.fdct.specs.Told.{entries, passed_at}
 use Rattle.fdct.proofs.Lines.{row_is}
 use Rattle.fdct.proofs.line.fdct_1d_columns.Invariants.{pass_row}
 use Rattle.fdct.proofs.line.fdct_1d_columns.Goals as goal

@@ -1,15 +1,10 @@
 -- `fdct::line::fdct_1d_rows` meets its contract.
 use borrow.Author.Rules.{rules}
-use Prim.Native.Nat.{ℕ, ◌-◌, ◌*◌, ◌≤◌}
+use Prim.Native.Nat.{◌*◌}
 use native.Mathlib.Omega.{arith}
-use mathlib.Core.List.{List}
-use mathlib.Core.Path.{◌≡◌, sym}
-use lib.Ieee.{Float}
-use lib.ListN.{length}
-use Rattle.basis.specs.Lists.{tabulate}
-use Rattle.basis.proofs.Lists.{length-tabulate, laid, laid_none, laid_put, laid_end}
+use mathlib.Core.Path.{sym}
+use Rattle.basis.proofs.Lists.{length-tabulate, laid_none, laid_put, laid_end}
 use Rattle.basis.proofs.Slices.{part_length}
-use Rattle.fdct.specs.Told.{entries, across_at}
 use Rattle.fdct.proofs.Lines.{across_is}
 use Rattle.fdct.proofs.line.fdct_1d_rows.Invariants.{pass_row}
 use Rattle.fdct.proofs.line.fdct_1d_rows.Goals as goal

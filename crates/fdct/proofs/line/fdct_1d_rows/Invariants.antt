@@ -1,16 +1,12 @@
 -- `fdct::line::fdct_1d_rows` meets its contract.
-use borrow.Author.Rules.{rules}
-use Prim.Native.Nat.{ℕ, ◌-◌, ◌*◌, ◌≤◌}
-use native.Mathlib.Omega.{arith}
+use Prim.Native.Nat.{ℕ, ◌≤◌}
 use mathlib.Core.List.{List}
-use mathlib.Core.Path.{◌≡◌, sym}
+use mathlib.Core.Path.{◌≡◌}
 use lib.Ieee.{Float}
 use lib.ListN.{length}
 use Rattle.basis.specs.Lists.{tabulate}
-use Rattle.basis.proofs.Lists.{length-tabulate, laid, laid_none, laid_put, laid_end}
-use Rattle.basis.proofs.Slices.{part_length}
+use Rattle.basis.proofs.Lists.{laid}
 use Rattle.fdct.specs.Told.{entries, across_at}
-use Rattle.fdct.proofs.Lines.{across_is}
 use Rattle.fdct.proofs.line.fdct_1d_rows.Given as goal
 
 -- row y of the pass

@@ -1,12 +1,11 @@
 -- `fdct::line::scale_places` meets its contract.
 use borrow.Author.Rules.{rules}
-use Prim.Native.Nat.{ℕ, ◌-◌, ◌≤◌}
+use Prim.Native.Nat.{ℕ}
 use native.Mathlib.Omega.{arith}
-use mathlib.Core.Path.{◌≡◌, sym, ap, ◌∙◌}
+use mathlib.Core.Path.{sym, ap, ◌∙◌}
 use lib.Ieee.{Float, binary64, mul, of_bits}
-use lib.ListN.{length}
 use Rattle.basis.specs.Lists.{tabulate}
-use Rattle.basis.proofs.Lists.{filled, filled_none, filled_set, filled_end}
+use Rattle.basis.proofs.Lists.{filled_none, filled_set, filled_end}
 use Rattle.fdct.specs.Double.{half_double}
 use Rattle.fdct.specs.Line.{weight}
 use Rattle.fdct.specs.Told.{entries}

@@ -1,12 +1,9 @@
 -- `fdct::line::scale_places` meets its contract.
-use borrow.Author.Rules.{rules}
-use Prim.Native.Nat.{ℕ, ◌-◌, ◌≤◌}
-use native.Mathlib.Omega.{arith}
-use mathlib.Core.Path.{◌≡◌, sym, ap, ◌∙◌}
-use lib.Ieee.{Float, binary64, mul, of_bits}
+use Prim.Native.Nat.{◌≤◌}
+use mathlib.Core.Path.{◌≡◌}
+use lib.Ieee.{binary64, mul}
 use lib.ListN.{length}
-use Rattle.basis.specs.Lists.{tabulate}
-use Rattle.basis.proofs.Lists.{filled, filled_none, filled_set, filled_end}
+use Rattle.basis.proofs.Lists.{filled}
 use Rattle.fdct.specs.Double.{half_double}
 use Rattle.fdct.specs.Line.{weight}
 use Rattle.fdct.specs.Told.{entries}

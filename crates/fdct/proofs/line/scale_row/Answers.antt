@@ -1,12 +1,11 @@
 -- `fdct::line::scale_row` meets its contract.
 use borrow.Author.Rules.{rules}
-use Prim.Native.Nat.{ℕ, ◌-◌, ◌≤◌}
+use Prim.Native.Nat.{ℕ}
 use native.Mathlib.Omega.{arith}
-use mathlib.Core.Path.{◌≡◌, refl, sym, ap, ◌∙◌}
+use mathlib.Core.Path.{refl, sym, ap, ◌∙◌}
 use lib.Ieee.{binary64, mul}
-use lib.ListN.{length}
 use Rattle.basis.specs.Lists.{tabulate}
-use Rattle.basis.proofs.Lists.{filled, filled_none, filled_set, filled_end}
+use Rattle.basis.proofs.Lists.{filled_none, filled_set, filled_end}
 use Rattle.fdct.specs.Told.{entries}
 use Rattle.fdct.proofs.line.scale_row.Goals as goal
 

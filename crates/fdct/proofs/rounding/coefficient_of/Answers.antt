@@ -1,5 +1,4 @@
 -- `fdct::rounding::coefficient_of` meets its contract: `proofs/Limits.antt` has what the clamped double has.
-use borrow.Author.Rules.{rules}
 use mathlib.Core.Path.{◌≡◌, sym, ap, ◌∙◌, subst}
 use mathlib.Core.Bool.{cond}
 use Prim.Native.Nat.{◌^◌, ◌<◌}

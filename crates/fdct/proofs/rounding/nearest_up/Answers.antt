@@ -1,6 +1,5 @@
 -- `fdct::rounding::nearest_up` meets its contract: `proofs/Wholes.antt` has what it asks.
-use borrow.Author.Rules.{rules}
-use mathlib.Core.Path.{◌≡◌, sym, ap, ap₂, ◌∙◌, subst}
+use mathlib.Core.Path.{sym, ap, ap₂, ◌∙◌, subst}
 use lib.Dec.{T}
 use lib.Ieee.{Float, binary64, add, in_signed, to_signed}
 use lib.Ieee.Casts.{to_signed_in}

@@ -1,9 +1,8 @@
 -- `macroblock::activities::mean` meets its contract.
-use Prim.Native.Nat.{ℕ, ◌-◌, ◌/◌}
+use Prim.Native.Nat.{ℕ, ◌/◌}
 use native.Mathlib.Omega.{arith}
 use mathlib.Core.Path.{ap}
-use lib.ListN.{get_or}
-use Rattle.basis.proofs.Sums.{Summed, summed_none, summed_more, summed_end}
+use Rattle.basis.proofs.Sums.{summed_none, summed_more, summed_end}
 use Rattle.macroblock.proofs.activities.mean.Goals as goal
 
 pub loop-k-init : goal.loop-k-init

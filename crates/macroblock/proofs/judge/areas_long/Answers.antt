@@ -1,5 +1,4 @@
 -- `macroblock::judge::areas_long` meets its contract.
-use borrow.Author.Rules.{rules}
 use Rattle.macroblock.proofs.judge.areas_long.Goals as goal
 
 pub returns : goal.returns

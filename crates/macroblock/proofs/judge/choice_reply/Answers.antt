@@ -1,6 +1,5 @@
 -- `macroblock::judge::choice_reply` meets its contract.
 use Rattle.macroblock.specs.Request.{choice_reply}
-use borrow.Author.Rules.{rules}
 use Rattle.macroblock.proofs.judge.choice_reply.Goals as goal
 
 pub returns : goal.returns

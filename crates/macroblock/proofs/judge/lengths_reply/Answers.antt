@@ -1,6 +1,5 @@
 -- `macroblock::judge::lengths_reply` meets its contract.
 use Rattle.macroblock.specs.Request.{lengths_reply}
-use borrow.Author.Rules.{rules}
 use Rattle.macroblock.proofs.judge.lengths_reply.Goals as goal
 
 pub returns : goal.returns

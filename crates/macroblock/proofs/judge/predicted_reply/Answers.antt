@@ -6,7 +6,6 @@ use Rattle.refusal.specs.declared.Reply.TheVariants.{Done}
 use Rattle.refusal.specs.Reply.{unless}
 use Rattle.refusal.proofs.Replies.{joined}
 use Rattle.macroblock.specs.Predicted.{predicted_reply}
-use borrow.Author.Rules.{rules}
 use Rattle.macroblock.proofs.judge.predicted_reply.Goals as goal
 
 pub returns : goal.returns

@@ -1,7 +1,6 @@
 -- `macroblock::judge::request_reply` meets its contract.
 use Rattle.refusal.proofs.Replies.{joined}
 use Rattle.macroblock.specs.Request.{request_reply}
-use borrow.Author.Rules.{rules}
 use Rattle.macroblock.proofs.judge.request_reply.Goals as goal
 
 pub returns : goal.returns

@@ -13,7 +13,6 @@ use Rattle.macroblock.specs.Request.{source, quantising_in}
 use Rattle.macroblock.specs.Answer.{record_with, record_at}
 use Rattle.macroblock.specs.Predicted.{PredictedRequest, predicted_request, reference_planes, made_prediction, predicting}
 use Rattle.macroblock.proofs.PredictedAccepted.{whole_lengths, PredictedAccepted, predicted_accepted}
-use borrow.Author.Rules.{rules}
 use Rattle.macroblock.proofs.predicted.code_predicted.Goals.{After-search_vectors-found, Start}
 use Rattle.macroblock.proofs.predicted.code_predicted.Goals as goal
 
@@ -59,9 +58,9 @@ pub code_residual-counts-requires : goal.code_residual-counts-requires
 code_residual-counts-requires c =
     let r = known (goal.at.code_residual-counts-requires c).Start in
     let l = r.lent_is in
-    let kept = c.predict_found.auto.1.1.1.1.1.1.1.1 in
+    let kept = c.predict_found.auto in
     record {
-      residual_made = record { source = r.source; whole = record { luma = kept.0; blue = kept.1.0; red = kept.1.1.0 }; long = refl };
+      residual_made = record { source = r.source; whole = record { luma = kept.y; blue = kept.cb; red = kept.cr }; long = refl };
       quantisable = r.quantisable;
       lasts_long = l.lasts;
       runs_long = l.runs;

@@ -1,5 +1,5 @@
 -- `macroblock::predicted::predict_found` meets its contract.
-use mathlib.Core.Path.{◌≡◌, ap₂, ◌∙◌}
+use mathlib.Core.Path.{ap₂, ◌∙◌}
 use Rattle.refusal.specs.declared.Reply.{Reply}
 use Rattle.refusal.proofs.Replies.{left}
 use Rattle.plane.specs.Samples.{Samples, samples}
@@ -7,7 +7,6 @@ use Rattle.prediction.specs.declared.BVopSampleMode.{BVopSampleMode}
 use Rattle.prediction.specs.declared.PvopMbMotion.{PvopMbMotion}
 use Rattle.prediction.specs.Planes.{planes_of, lengths_in}
 use Rattle.prediction.specs.Prediction.{macroblock_prediction, prediction_reply}
-use borrow.Author.Rules.{rules}
 use Rattle.macroblock.proofs.predicted.predict_found.Goals.{Start}
 use Rattle.macroblock.proofs.predicted.predict_found.Goals as goal
 

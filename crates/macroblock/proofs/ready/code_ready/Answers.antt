@@ -3,7 +3,6 @@ use mathlib.Core.Path.{refl, ◌∙◌}
 use Rattle.macroblock.specs.Request.{Request, request}
 use Rattle.macroblock.specs.Answer.{record_with, record_at}
 use Rattle.macroblock.proofs.Accepted.{Accepted, accepted}
-use borrow.Author.Rules.{rules}
 use Rattle.macroblock.proofs.ready.code_ready.Goals.{Start}
 use Rattle.macroblock.proofs.ready.code_ready.Goals as goal
 

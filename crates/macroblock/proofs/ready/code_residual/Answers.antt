@@ -11,7 +11,6 @@ use Rattle.coding.specs.Residual.{source_of, residual_of}
 use Rattle.coding.specs.Coding.{Quantising, quantising_of, counts_of, areas_of}
 use Rattle.coding.proofs.SixBlocks.{residual-length}
 use Rattle.coding.proofs.Taken.{residual-taken, coding_taken}
-use borrow.Author.Rules.{rules}
 use Rattle.macroblock.proofs.ready.code_residual.Goals.{After-macroblock_residual, After-quantise_inter_residual-counted, Start}
 use Rattle.macroblock.proofs.ready.code_residual.Goals as goal
 

@@ -4,7 +4,6 @@ use mathlib.Core.List.{List}
 use Rattle.record.specs.declared.Record.{Record}
 use Rattle.coding.specs.declared.Patterns.{Patterns}
 use Rattle.macroblock.specs.declared.Searched.{Searched}
-use borrow.Author.Rules.{rules}
 use Rattle.macroblock.proofs.ready.record_with.Goals as goal
 
 -- the record of what was found, the patterns and the counts

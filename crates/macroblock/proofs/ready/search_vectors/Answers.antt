@@ -16,7 +16,6 @@ use Rattle.search.proofs.Answered.{four_taken, one_answered, four_answered}
 use Rattle.search.proofs.Demanded.{one_vector_lem}
 use Rattle.macroblock.specs.Request.{search_in}
 use Rattle.macroblock.specs.Answer.{four_of, searched_of}
-use borrow.Author.Rules.{rules}
 use Rattle.macroblock.proofs.ready.search_vectors.Goals.{After-estimate_motion-one, After-estimate_motion_4mv-four, Start}
 use Rattle.macroblock.proofs.ready.search_vectors.Goals as goal
 

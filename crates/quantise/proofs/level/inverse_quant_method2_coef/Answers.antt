@@ -17,7 +17,6 @@ use Rattle.basis.specs.Signed.{signed}
 use Rattle.quantise.specs.Level.{inverse_size, inverse_by_quantiser}
 use Rattle.basis.proofs.Sizes.{signed_above}
 use Rattle.quantise.proofs.Signs.{minus_signed, minus_fits, minus_read, inverse_most}
-use borrow.Author.Rules.{rules}
 use Rattle.quantise.proofs.level.inverse_quant_method2_coef.Goals.{After-inverse_size-size, After-magnitude-l, Else-l-eq0, Start, Then-level-lt0}
 use Rattle.quantise.proofs.level.inverse_quant_method2_coef.Goals as goal
 

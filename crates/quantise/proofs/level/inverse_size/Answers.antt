@@ -5,7 +5,6 @@ use mathlib.Core.Path.{sym}
 use borrow.Author.Tests.{eq-eqb, ne_eqb}
 use Rattle.basis.proofs.Bounds.{product_le}
 use Rattle.basis.proofs.Case.{then, else}
-use borrow.Author.Rules.{rules}
 use Rattle.quantise.proofs.level.inverse_size.Goals.{Start}
 use Rattle.quantise.proofs.level.inverse_size.Goals as goal
 

@@ -12,7 +12,6 @@ use Rattle.basis.specs.Cut.{cut_to}
 use Rattle.basis.specs.Signed.{signed}
 use Rattle.quantise.specs.Level.{level_by_weight}
 use Rattle.quantise.proofs.Signs.{quot_fits, quot_value, sixteen_size, sixteen_fits, sixteen_sign}
-use borrow.Author.Rules.{rules}
 use Rattle.quantise.proofs.level.quantise_method1_inter.Goals.{After-toward_zero-rest, Start}
 use Rattle.quantise.proofs.level.quantise_method1_inter.Goals as goal
 

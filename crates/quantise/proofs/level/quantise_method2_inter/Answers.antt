@@ -12,7 +12,6 @@ use Rattle.quantise.specs.Level.{quotient_by_quantiser, level_by_quantiser}
 use Rattle.quantise.proofs.Reciprocal.{halved_quotient, halved_product}
 use Rattle.basis.proofs.Sizes.{signed_above}
 use Rattle.quantise.proofs.Signs.{signed_cut, minus_signed, minus_fits, minus_read}
-use borrow.Author.Rules.{rules}
 use Rattle.quantise.proofs.level.quantise_method2_inter.Goals.{After-less-rest, Start, Then-f-lt0}
 use Rattle.quantise.proofs.level.quantise_method2_inter.Goals as goal
 

@@ -10,7 +10,6 @@ use Rattle.basis.proofs.Signed.{of_bits_lem, negative_fits, negative_read}
 use Rattle.basis.specs.Cut.{cut_to}
 use Rattle.basis.specs.Signed.{signed}
 use Rattle.quantise.proofs.Signs.{signed_fits, toward_is}
-use borrow.Author.Rules.{rules}
 use Rattle.quantise.proofs.level.toward_zero.Goals.{After-clamp}
 use Rattle.quantise.proofs.level.toward_zero.Goals as goal
 

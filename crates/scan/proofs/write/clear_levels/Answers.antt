@@ -1,12 +1,11 @@
 -- `scan::write::clear_levels` meets its contract.
 use borrow.Author.Rules.{rules}
-use Prim.Native.Nat.{ℕ, ◌-◌, ◌≤◌}
+use Prim.Native.Nat.{ℕ}
 use native.Mathlib.Omega.{arith}
-use mathlib.Core.Path.{◌≡◌, refl, sym, ap, ◌∙◌}
+use mathlib.Core.Path.{refl, sym, ap, ◌∙◌}
 use lib.IntN.{pos}
-use lib.ListN.{length}
 use Rattle.basis.specs.Lists.{tabulate}
-use Rattle.basis.proofs.Lists.{filled, filled_none, filled_set, filled_end, tabulate_const}
+use Rattle.basis.proofs.Lists.{filled_none, filled_set, filled_end, tabulate_const}
 use Rattle.scan.proofs.write.clear_levels.Goals as goal
 
 pub loop-i-init : goal.loop-i-init

@@ -1,12 +1,9 @@
 -- `scan::write::clear_levels` meets its contract.
-use borrow.Author.Rules.{rules}
-use Prim.Native.Nat.{ℕ, ◌-◌, ◌≤◌}
-use native.Mathlib.Omega.{arith}
-use mathlib.Core.Path.{◌≡◌, refl, sym, ap, ◌∙◌}
+use Prim.Native.Nat.{◌≤◌}
+use mathlib.Core.Path.{◌≡◌}
 use lib.IntN.{pos}
 use lib.ListN.{length}
-use Rattle.basis.specs.Lists.{tabulate}
-use Rattle.basis.proofs.Lists.{filled, filled_none, filled_set, filled_end, tabulate_const}
+use Rattle.basis.proofs.Lists.{filled}
 use Rattle.scan.proofs.write.clear_levels.Given as goal
 
 abbrev pub invariant-loop-i : goal.invariant-loop-i

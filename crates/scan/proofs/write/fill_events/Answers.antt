@@ -4,7 +4,6 @@ use native.Mathlib.Omega.{arith}
 use mathlib.Core.Path.{ap, ◌∙◌}
 use Rattle.scan.specs.Event.{area, marks, lasts_area}
 use Rattle.scan.proofs.Writing.{events-length}
-use borrow.Author.Rules.{rules}
 use Rattle.scan.proofs.write.fill_events.Goals.{After-write_events-count}
 use Rattle.scan.proofs.write.fill_events.Goals as goal
 
@@ -43,4 +42,9 @@ pub returns : goal.returns
 unfolding lasts_area
 returns c =
     let w = c.write_events-count.ensures in
-    (w.value, (c.mark_last.ensures ∙ ap (λ (k : ℕ). area 0 (marks k)) w.value, w.1))
+    record {
+      value = w.value;
+      lasts_after = c.mark_last.ensures ∙ ap (λ (k : ℕ). area 0 (marks k)) w.value;
+      runs_after = w.runs_after;
+      out_levels_after = w.out_levels_after;
+    }

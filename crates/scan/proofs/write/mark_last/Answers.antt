@@ -6,7 +6,6 @@ use mathlib.Core.Path.{sym, ap, ◌∙◌}
 use lib.ListN.{length, set}
 use Rattle.scan.specs.Event.{area, marks}
 use Rattle.scan.proofs.Writing.{marked}
-use borrow.Author.Rules.{rules}
 use Rattle.scan.proofs.write.mark_last.Goals as goal
 
 pub returns-then-count-eq0 : goal.returns-then-count-eq0

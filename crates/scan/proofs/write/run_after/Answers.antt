@@ -1,6 +1,5 @@
 -- `scan::write::run_after` meets its contract.
 use mathlib.Core.Path.{sym}
-use borrow.Author.Rules.{rules}
 use Rattle.basis.proofs.Case.{then, else}
 use Rattle.scan.proofs.Writing.{zero_bits, not_zero_bits}
 use Rattle.scan.proofs.write.run_after.Goals as goal

@@ -1,10 +1,9 @@
 -- `scan::write::write_events` meets its contract.
-use Prim.Native.Nat.{ℕ, ◌+◌, ◌-◌}
+use Prim.Native.Nat.{ℕ, ◌+◌}
 use native.Mathlib.Omega.{arith}
 use mathlib.Core.Bool.{cond}
 use mathlib.Core.List.{List}
 use mathlib.Core.Path.{◌≡◌, sym, ap, subst, ◌∙◌}
-use borrow.Author.Rules.{rules}
 use lib.IntN.{ℤ, pos}
 use lib.ListN.{length, get_or, set, length-set}
 use lib.Seq.{set_out}
@@ -63,7 +62,8 @@ shape_of-out_levels-then-count-lt64 c = values_length c.loop-i.invariant ∙ sym
 
 pub returns-then-count-lt64 : goal.returns-then-count-lt64
 returns-then-count-lt64 c =
-    finished c.loop-i.invariant c.requires.levels_len c.loop-i-test.false
+    let all = finished c.loop-i.invariant c.requires.levels_len c.loop-i-test.false in
+    record { value = all.0; runs_after = all.1.0; out_levels_after = all.1.1 }
 
 pub shape_of-runs-else-count-lt64 : goal.shape_of-runs-else-count-lt64
 shape_of-runs-else-count-lt64 c = runs_long (goal.at.shape_of-runs-else-count-lt64 c).At-loop-i ∙ sym (ap length c.requires.runs_value)
