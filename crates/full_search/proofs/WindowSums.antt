@@ -1,5 +1,5 @@
 -- Sums against a block in a window: when there is one, and that it is summed where it stands. Assumes nothing.
-use Prim.Native.Nat.{ℕ, ◌+◌, ◌-◌, ◌*◌, ◌<◌, ◌≤◌}
+use Prim.Native.Nat.{ℕ, ◌+◌, ◌-◌, ◌*◌, ◌≤◌}
 use native.Mathlib.Omega.{arith}
 use mathlib.Core.Bool.{true, ◌&&◌}
 use mathlib.Core.List.{List}

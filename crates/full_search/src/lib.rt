@@ -1,4 +1,6 @@
 // The full-sample search: of a 16 x 16 block, and of an 8 x 8 block around a seed; and the sum of absolute differences of two blocks.
+#![tactic(auto)]
+
 ghost use Rattle.std.specs.Prelude.{◌≡◌, ◌-◌};
 ghost use Rattle.full_search.specs.Costs.{consider};
 ghost use Rattle.full_search.specs.Won.{window_reply, placed_reply, square_reply, sixteen_reply, seed_size_reply, eight_reply, sum_reply};

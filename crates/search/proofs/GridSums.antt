@@ -3,12 +3,12 @@ use Prim.Native.Nat.{ℕ, zero, suc, ◌+◌, ◌-◌, ◌*◌, ◌/◌, ◌%◌
 use native.Mathlib.Nat.{add-mul, mul-le-mul_right}
 use native.Mathlib.Omega.{arith}
 use mathlib.Core.Bool.{Bool, true, false, not, ◌&&◌, ◌||◌}
-use mathlib.Core.List.{List, foldl}
+use mathlib.Core.List.{List}
 use mathlib.Core.Path.{◌≡◌, refl, sym, ap, ap₂, ◌∙◌}
 use borrow.Author.Tests.{eqb-true, eq-eqb, ne_eqb}
 use lib.Dec.{eqb}
-use lib.IntN.{ℤ, pos, negsuc, ◌+ℤ◌, ◌-ℤ◌, +ℤ_assoc, +ℤ_idr}
-use lib.ListN.{length, get_or}
+use lib.IntN.{ℤ, pos, negsuc, +ℤ_assoc, +ℤ_idr}
+use lib.ListN.{length}
 use Rattle.basis.specs.Cut.{cut_to}
 use Rattle.basis.specs.Division.{rest_z}
 use Rattle.basis.proofs.Cut.{cut_none}
@@ -32,10 +32,10 @@ use Rattle.full_search.proofs.EqualSums.{differences_cong}
 use Rattle.full_search.proofs.Sides.{side_least}
 use Rattle.full_search.proofs.WindowSums.{window_sum_is}
 use Rattle.search.specs.declared.SearchSettings.{SearchSettings}
-use Rattle.search.specs.Range.{low, high, vector_in, clamped}
+use Rattle.search.specs.Range.{low, high, vector_in}
 use Rattle.search.specs.Sums.{vector_sum}
 use Rattle.search.specs.Sub.{stepped, neighbour}
-use Rattle.search.specs.ToldGrids.{half_sum, beside, free, grid_of, window_of, grid_sum, grid_size, Grids, RingSums}
+use Rattle.search.specs.ToldGrids.{half_sum, beside, free, grid_of, window_of, grid_sum, grid_size, RingSums}
 
 -- in half mode the sum of a vector is this one
 pub half_sums : (s : SearchSettings) (b : Block) → s.mode ≡ HalfPel → vector_sum s b ≡ half_sum s.rounding b

@@ -1,5 +1,7 @@
 // Motion search: a vector for a macroblock, or one for each of its four 8 x 8 blocks. Full samples first, then half and quarter
 // samples around the winner. It leans on what `full_search`, `prediction` and `plane` promise and repeats none of their arithmetic.
+#![tactic(auto)]
+
 ghost use Rattle.std.specs.Prelude.{◌≡◌, true, ◌*◌, ◌<◌, ◌≤◌, length};
 ghost use Rattle.refusal.specs.declared.Reply.TheVariants.{Done};
 ghost use Rattle.refusal.specs.Test.{between};

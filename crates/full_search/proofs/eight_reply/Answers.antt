@@ -1,5 +1,4 @@
 -- `full_search::eight_reply` meets its contract.
-use borrow.Author.Rules.{rules}
 use Rattle.refusal.proofs.Replies.{joined}
 use Rattle.full_search.specs.Won.{eight_reply}
 use Rattle.full_search.proofs.eight_reply.Goals as goal

@@ -1,5 +1,4 @@
 -- `full_search::no_winner` meets its contract.
-use borrow.Author.Rules.{rules}
 use mathlib.Core.Path.{ap}
 use Rattle.refusal.specs.declared.Refusal.{Refusal}
 use Rattle.refusal.specs.declared.Reply.TheVariants.{Refused}

@@ -1,5 +1,4 @@
 -- `full_search::search_eight` meets its contract.
-use borrow.Author.Rules.{rules}
 use mathlib.Core.Path.{◌≡◌, sym, ap, ◌∙◌}
 use lib.ListN.{length}
 use Rattle.refusal.specs.declared.Reply.{Reply}

@@ -1,5 +1,4 @@
 -- `full_search::seed_reply` meets its contract.
-use borrow.Author.Rules.{rules}
 use mathlib.Core.Bool.{Bool, ◌&&◌}
 use mathlib.Core.Path.{ap, ap₂, ◌∙◌}
 use lib.IntN.{pos, negsuc}

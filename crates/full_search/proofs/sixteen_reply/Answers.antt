@@ -1,5 +1,4 @@
 -- `full_search::sixteen_reply` meets its contract.
-use borrow.Author.Rules.{rules}
 use Rattle.refusal.proofs.Replies.{joined}
 use Rattle.full_search.specs.Won.{sixteen_reply}
 use Rattle.full_search.proofs.sixteen_reply.Goals as goal

@@ -1,5 +1,4 @@
 -- `full_search::square_reply` meets its contract.
-use borrow.Author.Rules.{rules}
 use Rattle.refusal.proofs.Replies.{joined}
 use Rattle.full_search.specs.Won.{square_reply}
 use Rattle.full_search.proofs.square_reply.Goals as goal

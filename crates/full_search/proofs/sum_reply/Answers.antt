@@ -1,5 +1,4 @@
 -- `full_search::sum_reply` meets its contract.
-use borrow.Author.Rules.{rules}
 use Rattle.refusal.proofs.Replies.{joined}
 use Rattle.full_search.specs.Won.{sum_reply}
 use Rattle.full_search.proofs.sum_reply.Goals as goal

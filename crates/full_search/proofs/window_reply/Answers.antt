@@ -1,5 +1,4 @@
 -- `full_search::window_reply` meets its contract.
-use borrow.Author.Rules.{rules}
 use Rattle.full_search.specs.Won.{window_reply}
 use Rattle.full_search.proofs.window_reply.Goals as goal
 

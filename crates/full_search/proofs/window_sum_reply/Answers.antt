@@ -1,7 +1,5 @@
 -- `full_search::window_sum_reply` meets its contract.
-use Prim.Native.Nat.{ℕ}
 use mathlib.Core.Path.{ap, ◌∙◌}
-use borrow.Author.Rules.{rules}
 use Rattle.refusal.proofs.Replies.{joined}
 use Rattle.plane.specs.Reference.{reference_bytes_reply}
 use Rattle.full_search.specs.Window.{square_of, window_sum_reply}

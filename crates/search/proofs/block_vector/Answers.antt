@@ -25,7 +25,6 @@ use Rattle.search.specs.Told.{eight_target}
 use Rattle.search.proofs.Eights.{part_of, eight_inside, searched, copied_vector}
 use Rattle.search.proofs.InRange.{in_interpolation}
 use Rattle.search.proofs.Windows.{window_most}
-use borrow.Author.Rules.{rules}
 use Rattle.search.proofs.block_vector.Goals.{After-eight_samples, After-search_eight-won, Start}
 use Rattle.search.proofs.block_vector.Goals as goal
 
@@ -69,9 +68,6 @@ start_at c = (goal.at.After-eight_samples c).Start
 -- the local block
 abbrev local : After-eight_samples → List ℕ
 local c = c.eight_samples.new.out
-
-abbrev samples_at : After-search_eight-won → After-eight_samples
-samples_at c = (goal.at.After-search_eight-won c).After-eight_samples
 
 found : (c : After-search_eight-won) → c.search_eight-won.result.best.vector ≡ winner (start_at (goal.at.After-search_eight-won c).After-eight_samples)
 unfolding eight_best

@@ -8,7 +8,6 @@ use mir.ValLaws.{to_z_pos}
 use Rattle.plane.specs.declared.Point.{Point}
 use Rattle.search.proofs.Eights.{whole, start_of, whole_usable, eight-copied}
 use Rattle.full_search.proofs.Patches.{copy_is}
-use borrow.Author.Rules.{rules}
 use Rattle.search.proofs.eight_samples.Goals.{Start}
 use Rattle.search.proofs.eight_samples.Goals as goal
 

@@ -8,7 +8,6 @@ use mir.Val.{SFits, to_z, of_z}
 use mir.ValLaws.{to_z-of_z, to_z_pos}
 use Rattle.basis.specs.Parts.{above, below}
 use Rattle.basis.proofs.Parts.{above-add, below-add, parts_fit}
-use borrow.Author.Rules.{rules}
 use Rattle.search.proofs.eight_target.Goals.{Start}
 use Rattle.search.proofs.eight_target.Goals as goal
 

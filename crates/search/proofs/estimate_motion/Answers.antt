@@ -14,7 +14,6 @@ use Rattle.search.specs.Told.{Judged}
 use Rattle.search.proofs.Answered.{one_by}
 use Rattle.search.proofs.Demanded.{one_vector_lem}
 use Rattle.search.proofs.Judge.{search_done}
-use borrow.Author.Rules.{rules}
 use Rattle.search.proofs.estimate_motion.Goals.{After-one_vector-best, After-search_reply-reply, In-Done, Start}
 use Rattle.search.proofs.estimate_motion.Goals as goal
 
@@ -30,9 +29,6 @@ module _ (s : Start) where
 -- no vector
 abbrev refused : Refusal → MotionVector → Estimated
 refused why v = record { reply = Refused why; vector = v; sum = 0 }
-
-abbrev start_at : After-search_reply-reply → Start
-start_at c = (goal.at.After-search_reply-reply c).Start
 
 done : (c : In-Done) → search_reply (requestOf (goal.at.In-Done c).Start) ≡ Done
 done c = sym c.search_reply-reply.ensures ∙ c.in-Done.is
@@ -50,10 +46,9 @@ one_vector-best-requires c =
 
 pub returns-in-Refused : goal.returns-in-Refused
 returns-in-Refused c =
-    let g = c.reply-1.given in
-    let e = sym g.1 ∙ c.search_reply-reply.ensures in
+    let e = sym c.in-Refused.is ∙ c.search_reply-reply.ensures in
     record {
-      result_value = ap (refused g.0.0) c.zero_vector.ensures ∙ one_by (requestOf (goal.at.returns-in-Refused c).Start) e;
+      result_value = ap (refused c.in-Refused.why) c.zero_vector.ensures ∙ one_by (requestOf (goal.at.returns-in-Refused c).Start) e;
       one_vector = λ e. not_done _ e;
     }
 

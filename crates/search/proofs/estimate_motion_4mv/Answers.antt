@@ -16,7 +16,6 @@ use Rattle.search.specs.Told.{Judged}
 use Rattle.search.proofs.Answered.{four_by}
 use Rattle.search.proofs.Demanded.{four_vectors}
 use Rattle.search.proofs.Judge.{four_done, seed_done}
-use borrow.Author.Rules.{rules}
 use Rattle.search.proofs.estimate_motion_4mv.Goals.{After-four_reply-reply, After-four_vectors, In-Done, Start}
 use Rattle.search.proofs.estimate_motion_4mv.Goals as goal
 
@@ -39,9 +38,6 @@ module _ (s : Start) where
 abbrev refused : Refusal → MotionVector → EstimatedFour
 refused why z = record { reply = Refused why; vectors = replicate 4 z; sums = replicate 4 0 }
 
-abbrev start_at : After-four_reply-reply → Start
-start_at c = (goal.at.After-four_reply-reply c).Start
-
 done : (c : In-Done) → four_reply (requestOf (goal.at.In-Done c).Start) c.args.seed ≡ Done
 done c = sym c.four_reply-reply.ensures ∙ c.in-Done.is
 
@@ -58,10 +54,9 @@ four_vectors-requires c =
 
 pub returns-in-Refused : goal.returns-in-Refused
 returns-in-Refused c =
-    let g = c.reply-1.given in
-    let e = sym g.1 ∙ c.four_reply-reply.ensures in
+    let e = sym c.in-Refused.is ∙ c.four_reply-reply.ensures in
     record {
-      result_value = ap (refused g.0.0) c.zero_vector-zero.ensures ∙ four_by (requestOf (goal.at.returns-in-Refused c).Start) c.args.seed e;
+      result_value = ap (refused c.in-Refused.why) c.zero_vector-zero.ensures ∙ four_by (requestOf (goal.at.returns-in-Refused c).Start) c.args.seed e;
       four_vectors = λ e. not_done _ e;
     }
 

@@ -5,7 +5,6 @@ use Rattle.refusal.specs.declared.Reply.TheVariants.{Done}
 use Rattle.refusal.specs.Reply.{and_then}
 use Rattle.search.specs.Request.{SearchRequest, search_request, search_reply, seed_reply, four_reply}
 use Rattle.search.proofs.Judge.{search_set}
-use borrow.Author.Rules.{rules}
 use Rattle.search.proofs.four_reply.Goals.{After-search_reply, In-Done, Start}
 use Rattle.search.proofs.four_reply.Goals as goal
 
@@ -19,9 +18,6 @@ joined : (s : Start) (r : Reply) → r ≡ search_reply (requestOf s)
     → and_then r (seed_reply s.args.fcode s.args.seed) ≡ four_reply (requestOf s) s.args.seed
 unfolding four_reply
 joined s r e = ap (λ (x : Reply). and_then x (seed_reply s.args.fcode s.args.seed)) e
-
-abbrev start_at : After-search_reply → Start
-start_at c = (goal.at.After-search_reply c).Start
 
 done : (c : In-Done) → search_reply (requestOf (goal.at.In-Done c).Start) ≡ Done
 done c = sym c.search_reply.ensures ∙ c.in-Done.is

@@ -15,7 +15,6 @@ use Rattle.search.specs.Told.{EightSought, macroblock_target}
 use Rattle.search.proofs.Eights.{four_are}
 use Rattle.search.proofs.Judge.{column_most, row_most}
 use Rattle.search.proofs.SourceBlock.{samples_of, luma_placed, luma_searched}
-use borrow.Author.Rules.{rules}
 use Rattle.search.proofs.four_vectors.Goals.{After-luma_block, After-macroblock_target-target, Start}
 use Rattle.search.proofs.four_vectors.Goals as goal
 
@@ -49,13 +48,13 @@ luma_at c = (goal.at.After-macroblock_target-target c).After-luma_block
 -- what each search is told
 asked : (c : After-macroblock_target-target) (n : ℕ) → n < 4
     → let a = (start_at (luma_at c)).args in
-    EightSought (local (luma_at c)) n a.reference.now c.macroblock-target.result a.settings a.seed
+    EightSought (local (luma_at c)) n a.reference.now c.macroblock_target-target.result a.settings a.seed
 asked c n h =
     let l = luma_at c in
     let s = start_at l in
     let a = s.args in
     let j = s.requires.0 in
-    subst (λ (t : Target). EightSought (local l) n a.reference.now t a.settings a.seed) (sym c.macroblock-target.ensures)
+    subst (λ (t : Target). EightSought (local l) n a.reference.now t a.settings a.seed) (sym c.macroblock_target-target.ensures)
     (record {
       samples_fit = (luma_searched _ _ _ _ _ _ j (local l) (copied_is l)).source_fits;
       block_is = h;
@@ -69,11 +68,11 @@ asked c n h =
 -- and what it answers, of the macroblock of the source
 answered : (c : After-macroblock_target-target) (n : ℕ) (r : Scored)
     → let s = start_at (luma_at c) in
-    r ≡ vector_of s n (local (luma_at c)) c.macroblock-target.result → r ≡ vector_of s n (samples_in s) (target_in s)
+    r ≡ vector_of s n (local (luma_at c)) c.macroblock_target-target.result → r ≡ vector_of s n (samples_in s) (target_in s)
 answered c n r e =
     let s = start_at (luma_at c) in
     let l = copied_is (luma_at c) in
-    let t = c.macroblock-target.ensures in
+    let t = c.macroblock_target-target.ensures in
     e ∙ (λ i. vector_of s n (l i) (t i))
 
 pub macroblock_target-target-requires : goal.macroblock_target-target-requires

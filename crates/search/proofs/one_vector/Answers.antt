@@ -26,7 +26,6 @@ use Rattle.search.proofs.Judge.{column_most, row_most}
 use Rattle.search.proofs.Searched.{searched}
 use Rattle.search.proofs.SourceBlock.{samples_of, luma_searched}
 use Rattle.search.proofs.Windows.{window_most}
-use borrow.Author.Rules.{rules}
 use Rattle.search.proofs.one_vector.Goals.{After-luma_block, After-search_sixteen-won, Start}
 use Rattle.search.proofs.one_vector.Goals as goal
 
@@ -68,9 +67,6 @@ copied_is : (c : After-luma_block) → local c ≡ samples_in (goal.at.After-lum
 copied_is c =
     let r = c.luma_block.ensures in
     luma_is c.args.source.now c.args.size c.args.place _ _ _ c.requires.luma refl r.value r.out_after
-
-abbrev luma_at : After-search_sixteen-won → After-luma_block
-luma_at c = (goal.at.After-search_sixteen-won c).After-luma_block
 
 found : (c : After-search_sixteen-won) → c.search_sixteen-won.result.best.vector ≡ winner (start_at (goal.at.After-search_sixteen-won c).After-luma_block)
 unfolding sixteen_best

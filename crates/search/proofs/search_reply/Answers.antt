@@ -1,7 +1,6 @@
 -- `search::search_reply` meets its contract.
 use Rattle.refusal.proofs.Replies.{joined}
 use Rattle.search.specs.Request.{search_reply}
-use borrow.Author.Rules.{rules}
 use Rattle.search.proofs.search_reply.Goals as goal
 
 pub returns : goal.returns

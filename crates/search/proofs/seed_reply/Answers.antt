@@ -5,7 +5,6 @@ use Rattle.refusal.specs.declared.Refusal.TheVariants.{Seed}
 use Rattle.refusal.specs.declared.Reply.TheVariants.{Done}
 use Rattle.refusal.specs.Reply.{unless}
 use Rattle.search.specs.Request.{seed_reply}
-use borrow.Author.Rules.{rules}
 use Rattle.search.proofs.seed_reply.Goals as goal
 
 pub returns : goal.returns

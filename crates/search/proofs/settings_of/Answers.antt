@@ -1,5 +1,4 @@
 -- `search::settings_of` meets its contract.
-use borrow.Author.Rules.{rules}
 use Rattle.search.proofs.settings_of.Goals as goal
 
 pub returns : goal.returns

@@ -1,6 +1,5 @@
 -- `search::settings_reply` meets its contract.
 use Rattle.search.specs.Request.{settings_reply}
-use borrow.Author.Rules.{rules}
 use Rattle.search.proofs.settings_reply.Goals as goal
 
 pub returns : goal.returns

@@ -1,10 +1,9 @@
 -- `full_search::full::band_search` meets its contract.
-use Prim.Native.Nat.{ℕ, ◌+◌, ◌-◌, ◌*◌, ◌≤◌, ◌<◌}
+use Prim.Native.Nat.{ℕ, ◌+◌, ◌-◌, ◌*◌, ◌≤◌}
 use native.Mathlib.Nat.{mul-le-mul_left}
 use native.Mathlib.Omega.{arith}
 use mathlib.Core.Path.{◌≡◌, refl, sym, subst}
 use lib.ListN.{length}
-use borrow.Author.Rules.{rules}
 use Rattle.plane.specs.declared.Point.{Point}
 use Rattle.plane.specs.Plane.{Plane, plane_of, copied_block}
 use Rattle.full_search.specs.declared.Lines.{Lines}
@@ -12,13 +11,13 @@ use Rattle.full_search.specs.declared.Row.{Row}
 use Rattle.full_search.specs.Block.{blockIn}
 use Rattle.full_search.specs.Costs.{zero_discount}
 use Rattle.full_search.specs.Told.{moved_to}
-use Rattle.full_search.specs.ToldKept.{kept_of, copied_cost, NoMoreThanZero, row_below, rows_below}
+use Rattle.full_search.specs.ToldKept.{kept_of, copied_cost, NoMoreThanZero, rows_below}
 use Rattle.full_search.specs.ToldPatch.{RowReady}
 use Rattle.full_search.proofs.Moves.{wider, down_within}
-use Rattle.full_search.proofs.OnPatches.{RowsKept, rows_none, rows_more, rows_all}
+use Rattle.full_search.proofs.OnPatches.{rows_none, rows_more, rows_all}
 use Rattle.full_search.proofs.Patches.{copy_is, copy_length, patch_room, strip_columns}
 use Rattle.full_search.proofs.full.band_search.Invariants.{line_of}
-use Rattle.full_search.proofs.full.band_search.Goals.{After-copy_block, At-loop-i, In-loop-i, Start}
+use Rattle.full_search.proofs.full.band_search.Goals.{After-copy_block, In-loop-i, Start}
 use Rattle.full_search.proofs.full.band_search.Goals as goal
 
 abbrev start : After-copy_block → Start
@@ -50,12 +49,12 @@ held c =
 room : (c : In-loop-i) (k : ℕ) → k ≤ (start (copied c)).args.first.count
     → let s = start (copied c) in
     let w = width_of s in
-    4 * c.before.loop.i * w + s.args.first.step * k + (16 - 1) * w + 16 ≤ 28 * w
+    4 * c.loop-i.i * w + s.args.first.step * k + (16 - 1) * w + 16 ≤ 28 * w
 room c k h =
     let s = start (copied c) in
     let w = width_of s in
     let step = s.args.first.step in
-    patch_room w 28 16 (4 * c.before.loop.i) (step * k) (omega arith) (omega (arith, c.loop-test.true, s.requires.few))
+    patch_room w 28 16 (4 * c.loop-i.i) (step * k) (omega arith) (omega (arith, c.loop-i-test.true, s.requires.few))
     (omega (arith, mul-le-mul_left step h))
 
 pub overflow_mul-width : goal.overflow_mul-width
@@ -106,7 +105,7 @@ sixteen_row-b-requires c =
     (record {
       is_side_is = refl;
       source_fits = subst (λ (n : ℕ). length a.source.now ≡ n * n) s.requires.sixteen s.requires.ready.source_fits;
-      fits = λ j h. omega (arith, long, room (goal.at.sixteen_row-b-requires c).At-loop-i j (omega (arith, h)));
+      fits = λ j h. omega (arith, long, room (goal.at.sixteen_row-b-requires c).In-loop-i j (omega (arith, h)));
       from_small = down_within 4000 4096 a.first.from (4 * i) (omega (arith, c.loop-i-test.true, s.requires.few)) s.requires.from_small;
       run_small = omega (arith, s.requires.run_small);
     })

@@ -2,16 +2,12 @@
 use Prim.Native.Nat.{ℕ}
 use mathlib.Core.List.{List}
 use mathlib.Core.Path.{◌≡◌, refl, ap, ◌∙◌}
-use borrow.Author.Rules.{rules}
 use Rattle.plane.specs.Plane.{plane_of, copied_block}
 use Rattle.full_search.specs.ToldPatch.{lines_sum, lines_from}
 use Rattle.full_search.proofs.Patches.{copy_is, copy_length}
 use Rattle.full_search.proofs.Sides.{listed_fits, source_fits}
 use Rattle.full_search.proofs.full.copied_sum.Goals.{After-copy_block, Start}
 use Rattle.full_search.proofs.full.copied_sum.Goals as goal
-
-abbrev start : After-copy_block → Start
-start c = (goal.at.After-copy_block c).Start
 
 -- what the area then holds
 held : (c : After-copy_block)

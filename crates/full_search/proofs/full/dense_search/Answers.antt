@@ -1,10 +1,9 @@
 -- `full_search::full::dense_search` meets its contract.
-use Prim.Native.Nat.{ℕ, ◌+◌, ◌-◌, ◌*◌, ◌≤◌, ◌<◌}
+use Prim.Native.Nat.{ℕ, ◌+◌, ◌*◌, ◌<◌}
 use native.Mathlib.Omega.{arith}
 use mathlib.Core.List.{List}
 use mathlib.Core.Path.{◌≡◌, refl, sym, ap, ◌∙◌, subst}
 use lib.IntN.{pos, ◌-ℤ◌}
-use lib.ListN.{length}
 use Rattle.record.specs.declared.MotionVector.{MotionVector}
 use Rattle.full_search.specs.declared.Row.{Row}
 use Rattle.full_search.specs.declared.Scored.{Scored}
@@ -18,9 +17,6 @@ use Rattle.full_search.proofs.Moves.{down_within, lowered_within}
 use Rattle.full_search.proofs.Near.{rows_within}
 use Rattle.full_search.proofs.full.dense_search.Goals.{In-loop-j, Start}
 use Rattle.full_search.proofs.full.dense_search.Goals as goal
-
-abbrev start : (c : In-loop-j) → Start
-start c = (goal.at.In-loop-j c).Start
 
 abbrev costOf : Start → MotionVector → ℕ
 costOf s = let a = s.args in target_cost zero_discount a.source.now a.reference.now a.target

@@ -3,12 +3,12 @@ use Prim.Native.Nat.{ℕ}
 use native.Mathlib.Nat.{div-le_self}
 use native.Mathlib.Omega.{arith}
 use mathlib.Core.Path.{◌≡◌, sym, ap, ◌∙◌}
-use borrow.Author.Rules.{rules}
 use lib.IntN.{ℤ, pos}
 use lib.Signed.{quot_z}
 use mir.Syntax.{w32}
 use mir.Val.{SFits, to_z, of_z}
 use mir.ValLaws.{to_z-of_z}
+use borrow.Author.Rules.{rules}
 use Rattle.basis.specs.Parts.{above, below}
 use Rattle.basis.proofs.Parts.{above_quot, below_quot, parts_fit, fits_above, fits_below}
 use Rattle.prediction.specs.declared.BVopSampleMode.{BVopSampleMode}
@@ -27,7 +27,7 @@ module _ (z : ℤ) (u : ℕ) (f : SFits w32 z) where
 
 pub nonzero_div-result : goal.nonzero_div-result
 nonzero_div-result c =
-    (omega arith, rw (to_z-of_z w32 c.args.z c.ranges.z) (quotient_fits c.args.z 2 c.ranges.z))
+    search (rules, quotient_fits)
 
 pub nonzero_div-result-in-QuarterPel : goal.nonzero_div-result-in-QuarterPel
 nonzero_div-result-in-QuarterPel c =

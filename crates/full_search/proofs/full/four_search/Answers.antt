@@ -4,7 +4,6 @@ use native.Mathlib.Omega.{arith}
 use mathlib.Core.Path.{◌≡◌, refl, sym, ap, ap₂, ◌∙◌, subst}
 use lib.IntN.{pos}
 use lib.Signed.{quot_z}
-use borrow.Author.Rules.{rules}
 use Rattle.record.specs.declared.MotionVector.{MotionVector}
 use Rattle.prediction.specs.declared.BVopSampleMode.{BVopSampleMode}
 use Rattle.prediction.specs.Luma.{units_per_pel}

@@ -51,11 +51,10 @@ lattice_search-coarse-requires c =
     record { ready = c.requires.0; sixteen = c.requires.1; window_small = c.requires.2; best_small = near_small (goal.at.lattice_search-coarse-requires c).After-near_search-near }
 
 pub dense_search-requires : goal.dense_search-requires
-dense_search-requires c =
-    (
-      record { ready = c.requires.0; sixteen = c.requires.1; window_small = c.requires.2; best_small = coarse_small (goal.at.dense_search-requires c).After-lattice_search-coarse },
-      subst (λ (b : Scored). Within 1023 b.vector) (sym (coarse_is (goal.at.dense_search-requires c).After-lattice_search-coarse)) (coarse_within (costOf (goal.at.dense_search-requires c).Start) c.args.w (block_at (goal.at.dense_search-requires c).Start) c.requires.2),
-    )
+dense_search-requires c = (
+  record { ready = c.requires.0; sixteen = c.requires.1; window_small = c.requires.2; best_small = coarse_small (goal.at.dense_search-requires c).After-lattice_search-coarse },
+  subst (λ (b : Scored). Within 1023 b.vector) (sym (coarse_is (goal.at.dense_search-requires c).After-lattice_search-coarse)) (coarse_within (costOf (goal.at.dense_search-requires c).Start) c.args.w (block_at (goal.at.dense_search-requires c).Start) c.requires.2),
+)
 
 pub returns-then-coarse-near : goal.returns-then-coarse-near
 unfolding sixteen_best

@@ -1,16 +1,14 @@
 -- `full_search::full::lattice_bands` meets its contract.
 use Prim.Native.Nat.{ℕ, ◌+◌, ◌-◌, ◌*◌, ◌≤◌, ◌<◌, min}
 use native.Mathlib.Omega.{arith}
-use mathlib.Core.List.{List}
 use mathlib.Core.Path.{◌≡◌, refl, sym, ap, ◌∙◌, subst}
 use lib.ListN.{length, take, length-take}
-use borrow.Author.Rules.{rules}
 use Rattle.basis.specs.Lists.{rows}
 use Rattle.basis.proofs.Slices.{put_length}
 use Rattle.record.specs.declared.MotionVector.{MotionVector}
 use Rattle.full_search.specs.declared.Row.{Row}
 use Rattle.full_search.specs.Costs.{zero_discount}
-use Rattle.full_search.specs.ToldKept.{kept_of, target_cost, row_below, rows_below, BandReady}
+use Rattle.full_search.specs.ToldKept.{kept_of, target_cost, rows_below, BandReady}
 use Rattle.full_search.proofs.Kept.{kept_small}
 use Rattle.full_search.proofs.Lattice.{band_more}
 use Rattle.full_search.proofs.Moves.{wider, down_within}
@@ -19,9 +17,6 @@ use Rattle.full_search.proofs.full.lattice_bands.Goals as goal
 
 less_all : (n : ℕ) → 0 ≤ n
 less_all n = omega arith
-
-abbrev start : In-loop-j → Start
-start c = (goal.at.In-loop-j c).Start
 
 abbrev costOf : Start → MotionVector → ℕ
 costOf s = let a = s.args in target_cost zero_discount a.source.now a.reference.now a.target
@@ -91,7 +86,7 @@ lent : (k : After-band_search-b) → 0 + length k.band_search-b.new.band ≡ siz
 lent k =
     let size = size_of (goal.at.After-band_search-b k).Start in
     none (length k.band_search-b.new.band)
-    ∙ k.band_search-b.auto.1.1.1.0
+    ∙ k.band_search-b.auto.band
     ∙ length-take (size - 0) k.loop-j.band
     ∙ part_length _ _ (room (goal.at.After-band_search-b k).In-loop-j)
   where

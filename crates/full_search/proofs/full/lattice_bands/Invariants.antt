@@ -1,19 +1,9 @@
 -- `full_search::full::lattice_bands` meets its contract.
-use Prim.Native.Nat.{ℕ, ◌+◌, ◌-◌, ◌*◌, ◌≤◌, ◌<◌, min}
-use native.Mathlib.Omega.{arith}
-use mathlib.Core.List.{List}
-use mathlib.Core.Path.{◌≡◌, refl, sym, ap, ◌∙◌, subst}
-use lib.ListN.{length, take, length-take}
-use borrow.Author.Rules.{rules}
-use Rattle.basis.specs.Lists.{rows}
-use Rattle.basis.proofs.Slices.{put_length}
-use Rattle.record.specs.declared.MotionVector.{MotionVector}
-use Rattle.full_search.specs.declared.Row.{Row}
+use Prim.Native.Nat.{◌-◌, ◌≤◌}
+use mathlib.Core.Path.{◌≡◌}
+use lib.ListN.{length}
 use Rattle.full_search.specs.Costs.{zero_discount}
-use Rattle.full_search.specs.ToldKept.{kept_of, target_cost, row_below, rows_below, BandReady}
-use Rattle.full_search.proofs.Kept.{kept_small}
-use Rattle.full_search.proofs.Lattice.{band_more}
-use Rattle.full_search.proofs.Moves.{wider, down_within}
+use Rattle.full_search.specs.ToldKept.{kept_of, target_cost, rows_below}
 use Rattle.full_search.proofs.full.lattice_bands.Given as goal
 
 abbrev pub invariant-loop-j : goal.invariant-loop-j

@@ -3,7 +3,6 @@ use Prim.Native.Nat.{ℕ, ◌<◌, ◌^◌}
 use native.Mathlib.Omega.{arith}
 use mathlib.Core.Path.{◌≡◌, ap, ◌∙◌}
 use lib.IntN.{pos, neg_ℤ}
-use borrow.Author.Rules.{rules}
 use Rattle.basis.specs.Parts.{above, below}
 use Rattle.basis.proofs.Signed.{of_bits_lem, negative_fits, negative_read}
 use Rattle.full_search.specs.Places.{back}

@@ -78,36 +78,34 @@ part-requires c =
     ap below (of_bits_lem c.args.target.corner.x c.struct_told-1.given.0.1) ∙ c.requires.ready.inside.x_least
 
 pub places-count-requires : goal.places-count-requires
-places-count-requires c =
-    (
-      c.requires.window_small,
-      omega (arith, across (goal.at.places-count-requires c).After-part, c.requires.ready.inside.x_most),
-      (usable c.args.reference.now c.args.target.geometry c.requires.ready.reference).within.high_w,
-    )
+places-count-requires c = (
+  c.requires.window_small,
+  omega (arith, across (goal.at.places-count-requires c).After-part, c.requires.ready.inside.x_most),
+  (usable c.args.reference.now c.args.target.geometry c.requires.ready.reference).within.high_w,
+)
 
 pub part-requires-2 : goal.part-requires-2
 part-requires-2 c =
     ap below (of_bits_lem c.args.target.corner.y c.struct_told-2-1.given.1.0.1) ∙ c.requires.ready.inside.y_least
 
 pub places-lines-requires : goal.places-lines-requires
-places-lines-requires c =
-    (
-      c.requires.window_small,
-      omega (arith, along (goal.at.places-lines-requires c).After-part-2, c.requires.ready.inside.y_most),
-      (usable c.args.reference.now c.args.target.geometry c.requires.ready.reference).within.high_h,
-    )
+places-lines-requires c = (
+  c.requires.window_small,
+  omega (arith, along (goal.at.places-lines-requires c).After-part-2, c.requires.ready.inside.y_most),
+  (usable c.args.reference.now c.args.target.geometry c.requires.ready.reference).within.high_h,
+)
 
 -- ---- the rows
-rows_ready : (c : After-places-lines) (most : ℕ) → 4 * (columns_at c).places.result ≤ most
+rows_ready : (c : After-places-lines) (step most : ℕ) → step * (columns_at c).places-count.result ≤ most
     → let a = (start_of (from_at c)).args in
     LatticeReady a.source.now a.reference.now a.target
-    (lattice_first a.w (from_at c).lattice-from.result (columns_at c).places.result) c.places2.result most a.best
-rows_ready c most h =
+    (record (lattice_first a.w (from_at c).lattice_from-from.result (columns_at c).places-count.result) { step = step }) c.places-lines.result most a.best
+rows_ready c step most h =
     let s = start_of (from_at c) in
     record {
       ready = s.requires.ready;
       sixteen = s.requires.sixteen;
-      from_small = subst (Within 1023) (sym (from_at c).lattice-from.ensures) (first_within s.args.w s.args.target.corner s.requires.window_small);
+      from_small = subst (Within 1023) (sym (from_at c).lattice_from-from.ensures) (first_within s.args.w s.args.target.corner s.requires.window_small);
       run_small = h;
       few = few_lines c;
       best_small = s.requires.best_small;
@@ -117,22 +115,22 @@ rows_ready c most h =
 rows-kept : (c : After-places-lines) (b : Scored)
     → let s = start_of (from_at c) in
     b ≡ kept_of (costOf s) s.args.best
-    (rows_below (lattice_first s.args.w (from_at c).lattice-from.result (columns_at c).places.result) c.places2.result)
+    (rows_below (lattice_first s.args.w (from_at c).lattice_from-from.result (columns_at c).places-count.result) c.places-lines.result)
     → b ≡ kept_of (costOf s) s.args.best (target_lattice s.args.w s.args.target)
 rows-kept c b e =
     let s = start_of (from_at c) in
     let t = s.args.target in
-    lattice-kept (costOf s) s.args.best b s.args.w t.corner t.geometry.width t.geometry.height (from_at c).lattice-from.result
-    (columns_at c).places.result c.places2.result c.places2.result e refl (from_at c).lattice-from.ensures (columns_are (columns_at c)) (lines_are c)
+    lattice-kept (costOf s) s.args.best b s.args.w t.corner t.geometry.width t.geometry.height (from_at c).lattice_from-from.result
+    (columns_at c).places-count.result c.places-lines.result c.places-lines.result e refl (from_at c).lattice_from-from.ensures (columns_are (columns_at c)) (lines_are c)
 
 pub narrow_lattice-requires : goal.narrow_lattice-requires
-narrow_lattice-requires c = rows_ready (goal.at.narrow_lattice-requires c).After-places-lines 256 (omega (arith, c.if-count-le64.true))
+narrow_lattice-requires c = rows_ready (goal.at.narrow_lattice-requires c).After-places-lines _ 256 (omega (arith, c.if-count-le64.true))
 
 pub returns-then-count-le64 : goal.returns-then-count-le64
 returns-then-count-le64 c = rows-kept (goal.at.returns-then-count-le64 c).After-places-lines c.narrow_lattice.result c.narrow_lattice.ensures
 
 pub wide_lattice-requires : goal.wide_lattice-requires
-wide_lattice-requires c = rows_ready (goal.at.wide_lattice-requires c).After-places-lines 2048 (omega (arith, few_columns (goal.at.wide_lattice-requires c).After-places-lines))
+wide_lattice-requires c = rows_ready (goal.at.wide_lattice-requires c).After-places-lines _ 2048 (omega (arith, few_columns (goal.at.wide_lattice-requires c).After-places-lines))
 
 pub returns : goal.returns
 returns c = rows-kept (goal.at.returns c).After-places-lines c.wide_lattice.result c.wide_lattice.ensures

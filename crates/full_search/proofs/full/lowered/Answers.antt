@@ -6,7 +6,6 @@ use mir.Syntax.{w32}
 use mir.Val.{SFits, to_z, of_z}
 use mir.ValLaws.{to_z-of_z}
 use mir.Facts.{to_z_pos}
-use borrow.Author.Rules.{rules}
 use Rattle.basis.proofs.Parts.{sides, above-sub, below_sub, parts_fit}
 use Rattle.full_search.proofs.full.lowered.Goals.{Start}
 use Rattle.full_search.proofs.full.lowered.Goals as goal

@@ -2,7 +2,6 @@
 use Prim.Native.Nat.{ℕ, ◌-◌}
 use native.Mathlib.Omega.{arith}
 use mathlib.Core.Path.{refl, ap, ap₂, ◌∙◌}
-use borrow.Author.Rules.{rules}
 use Rattle.full_search.specs.Costs.{zero_discount, scored}
 use Rattle.full_search.proofs.OnPatches.{middle_sum}
 use Rattle.full_search.proofs.Sides.{source_fits}

@@ -1,7 +1,6 @@
 -- `full_search::full::narrow_lattice` meets its contract.
 use Prim.Native.Nat.{ℕ, ◌+◌, ◌*◌, ◌≤◌}
 use native.Mathlib.Omega.{arith}
-use borrow.Author.Rules.{rules}
 use Rattle.full_search.proofs.full.narrow_lattice.Goals as goal
 
 room : (n : ℕ) → n ≤ 256 → (16 + n) * 28 ≤ 7616

@@ -1,8 +1,7 @@
 -- `full_search::full::near_rows` meets its contract.
-use Prim.Native.Nat.{ℕ, ◌+◌, ◌-◌, ◌*◌, ◌≤◌, ◌<◌}
+use Prim.Native.Nat.{◌*◌}
 use native.Mathlib.Omega.{arith}
-use mathlib.Core.Path.{◌≡◌, refl, sym, subst}
-use borrow.Author.Rules.{rules}
+use mathlib.Core.Path.{refl, sym, subst}
 use Rattle.full_search.specs.declared.Lines.{Lines}
 use Rattle.full_search.specs.declared.Row.{Row}
 use Rattle.full_search.specs.Costs.{zero_discount}
@@ -10,15 +9,11 @@ use Rattle.full_search.specs.Full.{near_square}
 use Rattle.full_search.specs.Told.{Within}
 use Rattle.full_search.specs.ToldPatch.{RowReady}
 use Rattle.full_search.proofs.Moves.{down_within}
-use Rattle.full_search.proofs.OnPatches.{SquareKept, square_none, square_more, near_all}
-use Rattle.full_search.proofs.Patches.{patch_room}
+use Rattle.full_search.proofs.OnPatches.{square_none, square_more, near_all}
 use Rattle.full_search.proofs.full.near_rows.Goals.{After-middle_start-b, In-loop-j, Start}
 use Rattle.full_search.proofs.full.near_rows.Goals as goal
 
--- the middle's start, and the start of all
-abbrev middle : In-loop-j → After-middle_start-b
-middle c = (goal.at.In-loop-j c).After-middle_start-b
-
+-- the start of all
 abbrev start : After-middle_start-b → Start
 start c = (goal.at.After-middle_start-b c).Start
 

@@ -1,17 +1,8 @@
 -- `full_search::full::near_rows` meets its contract.
-use Prim.Native.Nat.{ℕ, ◌+◌, ◌-◌, ◌*◌, ◌≤◌, ◌<◌}
-use native.Mathlib.Omega.{arith}
-use mathlib.Core.Path.{◌≡◌, refl, sym, subst}
-use borrow.Author.Rules.{rules}
-use Rattle.full_search.specs.declared.Lines.{Lines}
-use Rattle.full_search.specs.declared.Row.{Row}
+use Prim.Native.Nat.{◌≤◌}
 use Rattle.full_search.specs.Costs.{zero_discount}
 use Rattle.full_search.specs.Full.{near_square}
-use Rattle.full_search.specs.Told.{Within}
-use Rattle.full_search.specs.ToldPatch.{RowReady}
-use Rattle.full_search.proofs.Moves.{down_within}
-use Rattle.full_search.proofs.OnPatches.{SquareKept, square_none, square_more, near_all}
-use Rattle.full_search.proofs.Patches.{patch_room}
+use Rattle.full_search.proofs.OnPatches.{SquareKept}
 use Rattle.full_search.proofs.full.near_rows.Given as goal
 
 abbrev pub invariant-loop-j : goal.invariant-loop-j

@@ -3,7 +3,6 @@ use Prim.Native.Nat.{ℕ, ◌*◌}
 use native.Mathlib.Omega.{arith}
 use mathlib.Core.Path.{◌≡◌, refl, sym, subst}
 use lib.ListN.{length}
-use borrow.Author.Rules.{rules}
 use Rattle.plane.specs.Plane.{Plane, plane_of}
 use Rattle.full_search.specs.Block.{blockIn}
 use Rattle.full_search.specs.Costs.{zero_discount}
@@ -14,9 +13,6 @@ use Rattle.full_search.specs.ToldPatch.{NearPatch}
 use Rattle.full_search.proofs.Patches.{copy_is, copy_length}
 use Rattle.full_search.proofs.full.near_search.Goals.{After-copy_block, Start}
 use Rattle.full_search.proofs.full.near_search.Goals as goal
-
-abbrev start : After-copy_block → Start
-start c = (goal.at.After-copy_block c).Start
 
 abbrev planeIn : Start → Plane
 planeIn s = plane_of s.args.reference.now s.args.target.geometry
@@ -39,11 +35,10 @@ pub slice_bounds-near_rows-end : goal.slice_bounds-near_rows-end
 slice_bounds-near_rows-end c = sym (long (goal.at.slice_bounds-near_rows-end c).After-copy_block)
 
 pub near_rows-requires : goal.near_rows-requires
-near_rows-requires c =
-    (
-      subst (λ (n : ℕ). length c.args.source.now ≡ n * n) c.requires.1 c.requires.0.source_fits,
-      long (goal.at.near_rows-requires c).After-copy_block,
-    )
+near_rows-requires c = (
+  subst (λ (n : ℕ). length c.args.source.now ≡ n * n) c.requires.1 c.requires.0.source_fits,
+  long (goal.at.near_rows-requires c).After-copy_block,
+)
 
 pub returns : goal.returns
 returns c =

@@ -1,6 +1,5 @@
 -- `full_search::full::row_below` meets its contract.
 use mathlib.Core.Path.{ap}
-use borrow.Author.Rules.{rules}
 use Rattle.record.specs.declared.MotionVector.{MotionVector}
 use Rattle.full_search.proofs.full.row_below.Goals as goal
 

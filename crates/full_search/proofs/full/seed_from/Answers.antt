@@ -7,7 +7,7 @@ use lib.Signed.{quot_z}
 use mir.Syntax.{w32}
 use mir.Val.{to_z, of_z}
 use mir.Facts.{to_z-of_z}
-use borrow.Author.Rules.{sfits_of, rules}
+use borrow.Author.Rules.{sfits_of}
 use Rattle.basis.specs.Parts.{above, below}
 use Rattle.basis.proofs.Signed.{of_bits_lem}
 use Rattle.prediction.specs.Luma.{units_per_pel}

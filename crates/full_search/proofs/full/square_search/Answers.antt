@@ -1,7 +1,6 @@
 -- `full_search::full::square_search` meets its contract.
 use Prim.Native.Nat.{ℕ, ◌+◌, ◌-◌, ◌*◌, ◌≤◌, ◌<◌}
 use native.Mathlib.Nat.{mul-le-mul}
-use borrow.Author.Rules.{rules}
 use native.Mathlib.Omega.{arith}
 use mathlib.Core.Path.{◌≡◌, refl, sym, subst}
 use Rattle.plane.specs.declared.Point.{Point}
@@ -11,10 +10,10 @@ use Rattle.full_search.specs.declared.Row.{Row}
 use Rattle.full_search.specs.Told.{moved_to}
 use Rattle.full_search.specs.ToldPatch.{RowReady}
 use Rattle.full_search.proofs.Moves.{wider, down_within}
-use Rattle.full_search.proofs.OnPatches.{SquareKept, square_none, square_more, square_all}
+use Rattle.full_search.proofs.OnPatches.{square_none, square_more, square_all}
 use Rattle.full_search.proofs.Patches.{copy_is, copy_length, patch_room}
 use Rattle.full_search.proofs.Sides.{side_least, side_most}
-use Rattle.full_search.proofs.full.square_search.Goals.{After-copy_block, At-loop-j, In-loop-j, Start}
+use Rattle.full_search.proofs.full.square_search.Goals.{After-copy_block, In-loop-j, Start}
 use Rattle.full_search.proofs.full.square_search.Goals as goal
 
 abbrev start : After-copy_block → Start
@@ -45,12 +44,12 @@ held c =
 room : (c : In-loop-j) (k : ℕ) → k < (start (copied c)).args.square.count
     → let side = (start (copied c)).args.target.side in
     let w = width_of (start (copied c)) in
-    c.before.loop.j * w + k + (side - 1) * w + side ≤ w * w
+    c.loop-j.j * w + k + (side - 1) * w + side ≤ w * w
 room c k h =
     let s = start (copied c) in
     let side = s.args.target.side in
     let w = width_of s in
-    patch_room w w side c.before.loop.j k (side_least side s.requires.ready.is_side_is) (omega (arith, c.loop-test.true)) (omega (arith, h))
+    patch_room w w side c.loop-j.j k (side_least side s.requires.ready.is_side_is) (omega (arith, c.loop-j-test.true)) (omega (arith, h))
 
 squared : (w : ℕ) → w ≤ 40 → w * w ≤ 1600
 squared w h = omega (arith, mul-le-mul h h)
@@ -97,7 +96,7 @@ row_search-b-requires c =
     (record {
       is_side_is = s.requires.ready.is_side_is;
       source_fits = s.requires.ready.source_fits;
-      fits = λ i h. omega (arith, long, room (goal.at.row_search-b-requires c).At-loop-j i h);
+      fits = λ i h. omega (arith, long, room (goal.at.row_search-b-requires c).In-loop-j i h);
       from_small = down_within 4000 4096 a.square.from c.loop-j.j (omega (arith, c.loop-j-test.true, s.requires.few)) s.requires.from_small;
       run_small = omega (arith, s.requires.few);
     })

@@ -2,7 +2,6 @@
 use Prim.Native.Nat.{ℕ, ◌+◌, ◌*◌}
 use native.Mathlib.Omega.{arith}
 use mathlib.Core.Path.{◌≡◌}
-use borrow.Author.Rules.{rules}
 use Rattle.plane.specs.declared.Point.{Point}
 use Rattle.plane.specs.Plane.{plane_of, copied_block}
 use Rattle.full_search.specs.Told.{moved_to}
@@ -11,9 +10,6 @@ use Rattle.full_search.proofs.Patches.{copy_is, copy_length, strip_room}
 use Rattle.full_search.proofs.Sides.{side_least, side_most}
 use Rattle.full_search.proofs.full.strip_search.Goals.{After-copy_block, Start}
 use Rattle.full_search.proofs.full.strip_search.Goals as goal
-
-abbrev start : After-copy_block → Start
-start c = (goal.at.After-copy_block c).Start
 
 abbrev width_of : Start → ℕ
 width_of s = s.args.target.side + s.args.row.step * s.args.row.count

@@ -1,7 +1,6 @@
 -- `full_search::full::wide_lattice` meets its contract.
 use Prim.Native.Nat.{ℕ, ◌+◌, ◌*◌, ◌≤◌}
 use native.Mathlib.Omega.{arith}
-use borrow.Author.Rules.{rules}
 use Rattle.full_search.proofs.full.wide_lattice.Goals as goal
 
 room : (n : ℕ) → n ≤ 2048 → (16 + n) * 28 ≤ 57792

@@ -2,7 +2,6 @@
 use Prim.Native.Nat.{ℕ, ◌-◌}
 use native.Mathlib.Omega.{arith}
 use mathlib.Core.Path.{◌≡◌, refl, sym, ap, ap₂, ◌∙◌, subst}
-use borrow.Author.Rules.{rules}
 use Rattle.record.specs.Zero.{zero_vector}
 use Rattle.plane.specs.declared.Point.{Point}
 use Rattle.plane.specs.Plane.{plane_of, copied_block}

@@ -2,7 +2,6 @@
 use native.Mathlib.Omega.{arith}
 use mathlib.Core.Path.{◌≡◌, ap, ◌∙◌}
 use lib.IntN.{nat_abs}
-use borrow.Author.Rules.{rules}
 use Rattle.basis.proofs.Signed.{of_bits_lem}
 use Rattle.full_search.proofs.rows.distance.Goals.{After-magnitude-y}
 use Rattle.full_search.proofs.rows.distance.Goals as goal

@@ -3,7 +3,7 @@ use mathlib.Core.Path.{ap, ◌∙◌}
 use lib.IntN.{ℤ, pos, ◌+ℤ◌}
 use mir.Syntax.{w32}
 use mir.Facts.{to_z-of_z}
-use borrow.Author.Rules.{sfits_of, rules}
+use borrow.Author.Rules.{sfits_of}
 use Rattle.basis.proofs.Signed.{of_bits_lem}
 use Rattle.full_search.proofs.rows.down.Goals as goal
 

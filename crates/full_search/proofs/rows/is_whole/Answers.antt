@@ -1,10 +1,9 @@
 -- `full_search::rows::is_whole` meets its contract.
 use native.Mathlib.Nat.{mul-le-mul_left}
 use native.Mathlib.Omega.{arith}
-use mathlib.Core.Path.{◌≡◌, sym, ap, ◌∙◌, subst}
+use mathlib.Core.Path.{◌≡◌, ap, ◌∙◌, subst}
 use Prim.Native.Nat.{ℕ, ◌-◌, ◌*◌, ◌≤◌}
 use lib.IntN.{nat_abs}
-use borrow.Author.Rules.{rules}
 use Rattle.basis.proofs.Signed.{of_bits_lem}
 use Rattle.record.specs.declared.MotionVector.{MotionVector}
 use Rattle.full_search.specs.declared.Row.{Row}

@@ -1,6 +1,5 @@
 -- `full_search::rows::other_place` meets its contract.
 use mathlib.Core.Path.{refl}
-use borrow.Author.Rules.{rules}
 use Rattle.full_search.specs.ToldPatch.{lines_from}
 use Rattle.full_search.proofs.OnPatches.{considered, other_here}
 use Rattle.full_search.proofs.Sides.{source_fits}

@@ -1,7 +1,6 @@
 -- `full_search::rows::place_search` meets its contract.
 use mathlib.Core.List.{[], ◌∷◌}
 use mathlib.Core.Path.{◌≡◌, sym, ◌∙◌}
-use borrow.Author.Rules.{rules}
 use native.Mathlib.Omega.{arith}
 use Rattle.full_search.specs.Places.{listed}
 use Rattle.full_search.proofs.Listed.{too_near, too_far, is_listed}

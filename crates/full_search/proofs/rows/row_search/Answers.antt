@@ -1,10 +1,10 @@
 -- `full_search::rows::row_search` meets its contract.
-use Prim.Native.Nat.{ℕ, ◌-◌, ◌*◌, ◌≤◌, ◌<◌}
+use Prim.Native.Nat.{ℕ, ◌*◌, ◌≤◌, ◌<◌}
 use native.Mathlib.Nat.{mul-le-mul_left}
 use native.Mathlib.Omega.{arith}
-use mathlib.Core.Path.{◌≡◌, refl}
+use mathlib.Core.Path.{refl}
 use Rattle.full_search.specs.declared.Row.{Row}
-use Rattle.full_search.proofs.OnPatches.{RowKept, row_none, row_more, row_all}
+use Rattle.full_search.proofs.OnPatches.{row_none, row_more, row_all}
 use Rattle.full_search.proofs.rows.row_search.Goals as goal
 
 run : (r : Row) (k : ℕ) → k < r.count → r.step * r.count ≤ 4096 → r.step * k ≤ 4096

@@ -1,10 +1,7 @@
 -- `full_search::rows::row_search` meets its contract.
-use Prim.Native.Nat.{ℕ, ◌-◌, ◌*◌, ◌≤◌, ◌<◌}
-use native.Mathlib.Nat.{mul-le-mul_left}
-use native.Mathlib.Omega.{arith}
-use mathlib.Core.Path.{◌≡◌, refl}
-use Rattle.full_search.specs.declared.Row.{Row}
-use Rattle.full_search.proofs.OnPatches.{RowKept, row_none, row_more, row_all}
+use Prim.Native.Nat.{◌≤◌}
+use mathlib.Core.Path.{◌≡◌}
+use Rattle.full_search.proofs.OnPatches.{RowKept}
 use Rattle.full_search.proofs.rows.row_search.Given as goal
 
 abbrev pub invariant-loop-k : goal.invariant-loop-k

@@ -7,7 +7,6 @@ use mir.Val.{SFits, to_z, of_z}
 use mir.ValLaws.{to_z-of_z}
 use mir.Facts.{to_z_pos}
 use Rattle.basis.proofs.Parts.{sides, above-add, below-add, parts_fit}
-use borrow.Author.Rules.{rules}
 use Rattle.full_search.proofs.rows.shifted.Goals.{Start}
 use Rattle.full_search.proofs.rows.shifted.Goals as goal
 

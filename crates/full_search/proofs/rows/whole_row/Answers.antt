@@ -1,14 +1,14 @@
 -- `full_search::rows::whole_row` meets its contract.
-use Prim.Native.Nat.{ℕ, ◌-◌, ◌*◌, ◌≤◌, ◌<◌}
+use Prim.Native.Nat.{ℕ, ◌*◌, ◌≤◌, ◌<◌}
 use native.Mathlib.Nat.{mul-le-mul_left}
 use native.Mathlib.Omega.{arith}
 use mathlib.Core.List.{List, [], ◌∷◌}
 use mathlib.Core.Path.{◌≡◌, refl, sym, ap, ◌∙◌, subst}
 use Rattle.record.specs.declared.MotionVector.{MotionVector}
 use Rattle.full_search.specs.declared.Row.{Row}
-use Rattle.full_search.specs.Places.{right, distance, listed}
-use Rattle.full_search.specs.ToldPatch.{ListedWhole, lines_right, KeptOn}
-use Rattle.full_search.proofs.OnPatches.{RowKept, row_none, row_more, row_all}
+use Rattle.full_search.specs.Places.{distance, listed}
+use Rattle.full_search.specs.ToldPatch.{lines_right, KeptOn}
+use Rattle.full_search.proofs.OnPatches.{row_none, row_more, row_all}
 use Rattle.full_search.proofs.rows.whole_row.Goals as goal
 
 run : (r : Row) (k : ℕ) → k < r.count → r.step * r.count ≤ 4096 → r.step * k ≤ 4096

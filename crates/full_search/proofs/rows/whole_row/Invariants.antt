@@ -1,14 +1,7 @@
 -- `full_search::rows::whole_row` meets its contract.
-use Prim.Native.Nat.{ℕ, ◌-◌, ◌*◌, ◌≤◌, ◌<◌}
-use native.Mathlib.Nat.{mul-le-mul_left}
-use native.Mathlib.Omega.{arith}
-use mathlib.Core.List.{List, [], ◌∷◌}
-use mathlib.Core.Path.{◌≡◌, refl, sym, ap, ◌∙◌, subst}
-use Rattle.record.specs.declared.MotionVector.{MotionVector}
-use Rattle.full_search.specs.declared.Row.{Row}
-use Rattle.full_search.specs.Places.{right, distance, listed}
-use Rattle.full_search.specs.ToldPatch.{ListedWhole, lines_right, KeptOn}
-use Rattle.full_search.proofs.OnPatches.{RowKept, row_none, row_more, row_all}
+use Prim.Native.Nat.{ℕ, ◌≤◌}
+use mathlib.Core.Path.{◌≡◌}
+use Rattle.full_search.proofs.OnPatches.{RowKept}
 use Rattle.full_search.proofs.rows.whole_row.Given as goal
 
 abbrev pub invariant-loop-k : goal.invariant-loop-k

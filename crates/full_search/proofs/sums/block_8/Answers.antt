@@ -1,11 +1,10 @@
 -- `full_search::sums::block_8` meets its contract.
-use Prim.Native.Nat.{◌+◌, ◌-◌, ◌*◌}
+use Prim.Native.Nat.{◌+◌, ◌*◌}
 use native.Mathlib.Omega.{arith}
 use mathlib.Core.Path.{refl, ap₂, ◌∙◌}
-use borrow.Author.Rules.{rules}
 use Rattle.basis.proofs.Sums.{summed_none, summed_more, summed_end}
 use Rattle.full_search.specs.ToldPatch.{lines_from}
-use Rattle.full_search.proofs.RowSums.{rows_fit, RowsSummed, all_rows}
+use Rattle.full_search.proofs.RowSums.{rows_fit, all_rows}
 use Rattle.full_search.proofs.sums.block_8.Goals as goal
 
 pub loop-k-init : goal.loop-k-init

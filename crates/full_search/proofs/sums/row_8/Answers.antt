@@ -1,9 +1,6 @@
 -- `full_search::sums::row_8` meets its contract.
-use Prim.Native.Nat.{◌-◌}
 use native.Mathlib.Omega.{arith}
-use borrow.Author.Rules.{rules}
 use Rattle.basis.proofs.Sums.{summed_none, summed_more, summed_end}
-use Rattle.full_search.proofs.RowSums.{RowSummed}
 use Rattle.full_search.proofs.sums.row_8.Goals as goal
 
 pub loop-i-init : goal.loop-i-init

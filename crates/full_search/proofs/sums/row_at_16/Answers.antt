@@ -1,6 +1,5 @@
 -- `full_search::sums::row_at_16` meets its contract.
 use mathlib.Core.Path.{◌∙◌}
-use borrow.Author.Rules.{rules}
 use Rattle.full_search.specs.ToldPatch.{lines_from}
 use Rattle.full_search.proofs.RowSums.{row_parts}
 use Rattle.full_search.proofs.sums.row_at_16.Goals as goal

@@ -6,11 +6,9 @@ use lib.Signed.{shr_z, mag_shr}
 use mir.Syntax.{w32}
 use mir.Val.{SFits, to_z, of_z}
 use mir.ValLaws.{to_z-of_z, sfits_le}
-use Rattle.basis.specs.Parts.{above, below}
-use Rattle.basis.proofs.Parts.{sides, above-add, below-add, above-sub, below_sub, above-shr, below-shr, parts_fit}
+use Rattle.basis.proofs.Parts.{above-add, below-add, above-sub, below_sub, above-shr, below-shr, parts_fit}
 use Rattle.half_sample.specs.declared.HalfPel.{HalfPel}
 use Rattle.half_sample.specs.Split.{split_half}
-use borrow.Author.Rules.{rules}
 use Rattle.search.proofs.grids.before.Goals.{After-split_half_pel-split, Start}
 use Rattle.search.proofs.grids.before.Goals as goal
 

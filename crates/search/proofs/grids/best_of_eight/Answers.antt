@@ -1,5 +1,4 @@
 -- `search::grids::best_of_eight` meets its contract.
-use borrow.Author.Rules.{rules}
 use Prim.Native.Nat.{ℕ, ◌+◌, ◌*◌}
 use mathlib.Core.Path.{sym, ap}
 use Rattle.search.specs.ToldGrids.{grid_size}

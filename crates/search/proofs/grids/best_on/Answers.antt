@@ -1,5 +1,4 @@
 -- `search::grids::best_on` meets its contract.
-use borrow.Author.Rules.{rules}
 use Prim.Native.Nat.{ℕ, ◌+◌, ◌*◌}
 use native.Mathlib.Omega.{arith}
 use mathlib.Core.Bool.{Bool, true, false}
@@ -11,7 +10,7 @@ use Rattle.refusal.specs.declared.Reply.{Reply}
 use Rattle.refusal.specs.declared.Reply.TheVariants.{Done}
 use Rattle.refusal.specs.Reply.{done}
 use Rattle.plane.specs.declared.Point.{Point}
-use Rattle.plane.specs.Plane.{plane_of, copied, copied_block}
+use Rattle.plane.specs.Plane.{plane_of, copied_block}
 use Rattle.plane.proofs.Ready.{copy_done}
 use Rattle.half_sample.specs.Ring.{ring_corner, ring_grid}
 use Rattle.half_sample.proofs.Grids.{ring-done, length_grid}
@@ -31,7 +30,7 @@ module _ (i : After-interpolate_ring_into) where
   stride = i.args.target.side + 2
 
   abbrev patch : List ℕ
-  patch = i.copy_block.last.1.1.1.1.1.0
+  patch = i.copy_block.new.out
 
   abbrev patch_of : List ℕ
   patch_of =
@@ -44,9 +43,9 @@ module _ (i : After-interpolate_ring_into) where
       let p = plane_of i.args.reference.now t.geometry in
       let c = i.copy_block in
       let o = i.patch_corner-at in
-      c.ensures.1
+      c.ensures.out_after
       ∙ ap (λ (r : Reply). done r (copied_block p o.result stride stride) i.args.patch.now)
-      (c.ensures.0 ∙ copy_done t.geometry _ stride stride _ i.requires.0.ready.reference i.requires.1.patch_fits)
+      (c.ensures.value ∙ copy_done t.geometry _ stride stride _ i.requires.0.ready.reference i.requires.1.patch_fits)
       ∙ ap (λ (at : Point). copied_block p at stride stride) o.ensures
 
   patch_long : length patch ≡ stride * stride
@@ -71,13 +70,13 @@ module _ (i : After-interpolate_ring_into) where
       ∙ ap₂ (λ (p : List ℕ) (n : ℕ). ring_grid p stride hx hy i.args.rounding n) patch_is i.requires.1.right_fits
 
   abbrev right : List ℕ
-  right = i.interpolate_ring_into.last.1.1.1.0
+  right = i.interpolate_ring_into.new.right
 
   abbrev under : List ℕ
-  under = i.interpolate_ring_into.last.1.1.1.1.0
+  under = i.interpolate_ring_into.new.below
 
   abbrev diagonal : List ℕ
-  diagonal = i.interpolate_ring_into.last.1.1.1.1.1.0
+  diagonal = i.interpolate_ring_into.new.between
 
   right_is : right ≡ grid_by true false
   right_is = written true false i.args.right.now right i.interpolate_ring_into.ensures.right_after

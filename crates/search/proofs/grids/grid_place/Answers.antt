@@ -1,5 +1,4 @@
 -- `search::grids::grid_place` meets its contract.
-use borrow.Author.Rules.{rules}
 use mathlib.Core.Path.{◌∙◌, ap, sym}
 use Rattle.search.proofs.Rings.{ring_pass, ring_turn}
 use Rattle.search.proofs.grids.grid_place.Goals as goal

@@ -1,15 +1,12 @@
 -- `search::grids::grid_ring` meets its contract.
-use Prim.Native.Nat.{ℕ, ◌-◌, ◌<◌, ◌≤◌}
-use native.Mathlib.Omega.{arith}
+use Prim.Native.Nat.{ℕ, ◌≤◌}
 use mathlib.Core.List.{foldl}
-use mathlib.Core.Path.{◌≡◌, refl, ap, ◌∙◌}
+use mathlib.Core.Path.{◌≡◌}
 use Rattle.basis.specs.Lists.{rows}
 use Rattle.record.specs.declared.MotionVector.{MotionVector}
 use Rattle.full_search.specs.Costs.{consider}
-use Rattle.full_search.proofs.Kept.{pieces_more}
-use Rattle.search.specs.Sub.{ring_at, ring}
+use Rattle.search.specs.Sub.{ring_at}
 use Rattle.search.specs.ToldGrids.{RingSums}
-use borrow.Author.Rules.{rules}
 use Rattle.search.proofs.grids.grid_ring.Given as goal
 
 abbrev pub invariant-loop-n : goal.invariant-loop-n

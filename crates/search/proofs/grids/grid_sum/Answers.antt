@@ -1,6 +1,4 @@
 -- `search::grids::grid_sum` meets its contract.
-use borrow.Author.Rules.{rules}
-use Prim.Native.Nat.{◌+◌}
 use native.Mathlib.Omega.{arith}
 use mathlib.Core.Path.{◌∙◌}
 use Rattle.full_search.proofs.Sides.{side_most}

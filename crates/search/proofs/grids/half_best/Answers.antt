@@ -1,5 +1,4 @@
 -- `search::grids::half_best` meets its contract.
-use borrow.Author.Rules.{rules}
 use mathlib.Core.Path.{◌≡◌}
 use lib.Dec.{eqb}
 use borrow.Author.Tests.{eqb-true}

@@ -1,7 +1,6 @@
 -- `search::grids::is_free` meets its contract.
-use borrow.Author.Rules.{rules}
 use mathlib.Core.Bool.{Bool, not, ◌&&◌, ◌||◌}
-use mathlib.Core.Path.{◌≡◌, ap, ap₂, ◌∙◌}
+use mathlib.Core.Path.{ap, ap₂, ◌∙◌}
 use Rattle.basis.proofs.Signed.{of_bits_lem}
 use Rattle.half_sample.specs.declared.HalfPel.{HalfPel}
 use Rattle.half_sample.specs.Split.{split_half}

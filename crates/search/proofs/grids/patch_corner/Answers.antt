@@ -1,6 +1,5 @@
 -- `search::grids::patch_corner` meets its contract.
-use borrow.Author.Rules.{rules}
-use mathlib.Core.Path.{ap, ap₂, ◌∙◌}
+use mathlib.Core.Path.{ap₂, ◌∙◌}
 use lib.IntN.{ℤ, pos, ◌+ℤ◌, ◌-ℤ◌}
 use mir.Syntax.{w32}
 use mir.Facts.{to_z-of_z}

@@ -1,5 +1,4 @@
 -- `search::grids::read_from` meets its contract.
-use borrow.Author.Rules.{rules}
 use Rattle.search.proofs.GridSums.{read_one}
 use Rattle.search.proofs.grids.read_from.Goals as goal
 

@@ -1,9 +1,8 @@
 -- `search::grids::window_of` meets its contract.
-use borrow.Author.Rules.{rules}
 use Prim.Native.Nat.{ℕ, ◌+◌, ◌*◌, ◌/◌, ◌%◌, ◌≤◌}
 use native.Mathlib.Nat.{mul-le-mul_right}
 use native.Mathlib.Omega.{arith}
-use mathlib.Core.Path.{◌≡◌, ap₂}
+use mathlib.Core.Path.{ap₂}
 use Rattle.search.proofs.GridSums.{read_most}
 use Rattle.search.proofs.grids.window_of.Goals.{After-read_from}
 use Rattle.search.proofs.grids.window_of.Goals as goal

@@ -2,7 +2,7 @@
 use mathlib.Core.Path.{◌∙◌}
 use mir.Syntax.{w32}
 use mir.Facts.{to_z-of_z}
-use borrow.Author.Rules.{sfits_of, rules}
+use borrow.Author.Rules.{sfits_of}
 use Rattle.basis.specs.Cut.{cut_to}
 use Rattle.basis.proofs.Signed.{of_bits_lem}
 use Rattle.search.proofs.Ends.{low_fits, high_fits, between_ends}

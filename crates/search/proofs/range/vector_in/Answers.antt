@@ -1,7 +1,6 @@
 -- `search::range::vector_in` meets its contract.
 use mathlib.Core.Bool.{Bool, ◌&&◌}
 use mathlib.Core.Path.{ap₂, ◌∙◌}
-use borrow.Author.Rules.{rules}
 use Rattle.basis.proofs.Signed.{of_bits_lem}
 use Rattle.refusal.specs.Test.{in_range}
 use Rattle.search.proofs.Ends.{low_fits, high_fits, between_ends}

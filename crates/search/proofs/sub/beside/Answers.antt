@@ -4,7 +4,7 @@ use mathlib.Core.Path.{ap, ◌∙◌}
 use lib.IntN.{ℤ}
 use mir.Syntax.{w32}
 use mir.Facts.{to_z-of_z}
-use borrow.Author.Rules.{sfits_of, rules}
+use borrow.Author.Rules.{sfits_of}
 use Rattle.basis.proofs.Signed.{of_bits_lem}
 use Rattle.search.specs.Sub.{stepped}
 use Rattle.search.proofs.sub.beside.Goals as goal

@@ -1,9 +1,7 @@
 -- `search::sub::half_best` meets its contract.
-use borrow.Author.Rules.{rules}
-use Prim.Native.Nat.{ℕ, ◌/◌}
+use Prim.Native.Nat.{◌/◌}
 use mathlib.Core.List.{foldl}
 use mathlib.Core.Path.{sym, ap, ◌∙◌}
-use Rattle.record.specs.declared.MotionVector.{MotionVector}
 use Rattle.prediction.specs.declared.BVopSampleMode.{BVopSampleMode}
 use Rattle.prediction.specs.Luma.{units_per_pel}
 use Rattle.full_search.specs.declared.Scored.{Scored}

@@ -1,6 +1,5 @@
 -- `search::sub::neighbour` meets its contract.
 use mathlib.Core.Path.{ap, ◌∙◌}
-use borrow.Author.Rules.{rules}
 use Rattle.search.specs.Range.{clamped}
 use Rattle.search.proofs.sub.neighbour.Goals as goal
 

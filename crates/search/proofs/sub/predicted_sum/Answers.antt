@@ -8,7 +8,6 @@ use Rattle.plane.specs.Corner.{square_at}
 use Rattle.plane.specs.Plane.{plane_of}
 use Rattle.prediction.specs.Luma.{predicted_block}
 use Rattle.search.proofs.PredictedSums.{predicted_done, predicted_sum}
-use borrow.Author.Rules.{rules}
 use Rattle.search.proofs.sub.predicted_sum.Goals.{Start}
 use Rattle.search.proofs.sub.predicted_sum.Goals as goal
 

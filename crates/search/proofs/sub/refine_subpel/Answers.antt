@@ -1,5 +1,6 @@
 -- `search::sub::refine_subpel` meets its contract.
 use Prim.Native.Nat.{ℕ, ◌/◌}
+use borrow.Author.Rules.{rules}
 use native.Mathlib.Omega.{arith}
 use mathlib.Core.Bool.{true}
 use mathlib.Core.List.{List, foldl}
@@ -13,7 +14,6 @@ use Rattle.search.specs.Range.{vector_in}
 use Rattle.search.specs.Sums.{vector_sum}
 use Rattle.search.specs.Sub.{ring, start}
 use Rattle.search.proofs.Refined.{half_kept, refine_half, refine_quarter, ring-best_in, start_in}
-use borrow.Author.Rules.{rules}
 use Rattle.search.proofs.sub.refine_subpel.Goals.{After-half_best-half, Start}
 use Rattle.search.proofs.sub.refine_subpel.Goals as goal
 
@@ -32,9 +32,6 @@ module _ (s : Start) where
   abbrev around : MotionVector → List MotionVector
   around v = let t = s.args.settings in ring t.fcode (units_per_pel t.mode / 2) v
 
-abbrev start_at : After-half_best-half → Start
-start_at c = (goal.at.After-half_best-half c).Start
-
 half_is : (c : After-half_best-half) → c.half_best-half.result ≡ half_kept (sum_of (goal.at.After-half_best-half c).Start) c.args.settings c.args.winner.vector
 half_is c =
     c.half_best-half.ensures
@@ -47,12 +44,10 @@ half_best-half-requires c =
 pub ring_search-requires : goal.ring_search-requires
 ring_search-requires c =
     let t = c.args.settings in
-    record {
-      ready = c.requires.0;
-      settings = c.requires.1;
-      step_small = omega arith;
-      centre_in = ring-best_in (sum_of (goal.at.ring_search-requires c).Start) t.fcode (units_per_pel t.mode / 2) (begun (goal.at.ring_search-requires c).Start) c.half_best-half.result (half_is (goal.at.ring_search-requires c).After-half_best-half) (begun_in (goal.at.ring_search-requires c).Start);
-    }
+    let s = (goal.at.ring_search-requires c).Start in
+    let begun_at : vector_in t.fcode c.start-vector.result ≡ true = ap (vector_in t.fcode) c.start-vector.ensures ∙ begun_in s in
+    let kept_at : vector_in t.fcode c.half_best-half.result.vector ≡ true = ring-best_in (sum_of s) t.fcode (units_per_pel t.mode / 2) (begun s) c.half_best-half.result (half_is (goal.at.ring_search-requires c).After-half_best-half) (begun_in s) in
+    record { ready = c.requires.0; settings = c.requires.1; step_small = omega arith; centre_in = search rules }
 
 pub returns-in-HalfPel : goal.returns-in-HalfPel
 returns-in-HalfPel c =
@@ -61,7 +56,6 @@ returns-in-HalfPel c =
 pub returns-in-QuarterPel : goal.returns-in-QuarterPel
 returns-in-QuarterPel c =
     let t = c.args.settings in
-    let g = c.enum_told-in-QuarterPel-1.given in
     c.ring_search.ensures
     ∙ ap (λ (k : Scored). foldl (consider (sum_of (goal.at.returns-in-QuarterPel c).Start)) k (ring t.fcode 1 k.vector)) (half_is (goal.at.returns-in-QuarterPel c).After-half_best-half)
-    ∙ refine_quarter (sum_of (goal.at.returns-in-QuarterPel c).Start) t c.args.winner.vector g.0.0 g.1
+    ∙ refine_quarter (sum_of (goal.at.returns-in-QuarterPel c).Start) t c.args.winner.vector _ c.in-QuarterPel.is

@@ -1,5 +1,4 @@
 -- `search::sub::ring_best` meets its contract.
-use borrow.Author.Rules.{rules}
 use Prim.Native.Nat.{ℕ}
 use mathlib.Core.List.{foldl}
 use mathlib.Core.Path.{ap, ◌∙◌}

@@ -11,7 +11,6 @@ use Rattle.search.specs.Sub.{neighbour}
 use Rattle.search.proofs.InRange.{in_within, in_interpolation}
 use Rattle.search.proofs.Refined.{neighbour_in}
 use Rattle.search.proofs.Rings.{ring_pass, ring_turn}
-use borrow.Author.Rules.{rules}
 use Rattle.search.proofs.sub.ring_place.Goals.{Start}
 use Rattle.search.proofs.sub.ring_place.Goals as goal
 

@@ -1,5 +1,5 @@
 -- `search::sub::ring_search` meets its contract.
-use Prim.Native.Nat.{ℕ, ◌-◌, ◌≤◌}
+use Prim.Native.Nat.{ℕ}
 use native.Mathlib.Omega.{arith}
 use mathlib.Core.List.{foldl}
 use mathlib.Core.Path.{◌≡◌, refl, ap, ◌∙◌}
@@ -10,7 +10,6 @@ use Rattle.full_search.specs.Costs.{consider}
 use Rattle.full_search.proofs.Kept.{pieces_more}
 use Rattle.search.specs.Sums.{vector_sum}
 use Rattle.search.specs.Sub.{ring_at, ring}
-use borrow.Author.Rules.{rules}
 use Rattle.search.proofs.sub.ring_search.Goals.{Start}
 use Rattle.search.proofs.sub.ring_search.Goals as goal
 

@@ -1,16 +1,12 @@
 -- `search::sub::ring_search` meets its contract.
-use Prim.Native.Nat.{ℕ, ◌-◌, ◌≤◌}
-use native.Mathlib.Omega.{arith}
+use Prim.Native.Nat.{◌≤◌}
 use mathlib.Core.List.{foldl}
-use mathlib.Core.Path.{◌≡◌, refl, ap, ◌∙◌}
+use mathlib.Core.Path.{◌≡◌}
 use Rattle.basis.specs.Lists.{rows}
-use Rattle.record.specs.declared.MotionVector.{MotionVector}
 use Rattle.full_search.specs.Block.{block_of}
 use Rattle.full_search.specs.Costs.{consider}
-use Rattle.full_search.proofs.Kept.{pieces_more}
 use Rattle.search.specs.Sums.{vector_sum}
-use Rattle.search.specs.Sub.{ring_at, ring}
-use borrow.Author.Rules.{rules}
+use Rattle.search.specs.Sub.{ring_at}
 use Rattle.search.proofs.sub.ring_search.Given as goal
 
 abbrev pub invariant-loop-n : goal.invariant-loop-n

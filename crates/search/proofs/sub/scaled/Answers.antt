@@ -8,7 +8,6 @@ use mir.ValLaws.{to_z-of_z}
 use mir.Facts.{to_z_pos}
 use Rattle.basis.proofs.Bounds.{product_le}
 use Rattle.basis.proofs.Parts.{above-mul, below-mul, parts_fit}
-use borrow.Author.Rules.{rules}
 use Rattle.search.proofs.sub.scaled.Goals.{Start}
 use Rattle.search.proofs.sub.scaled.Goals as goal
 

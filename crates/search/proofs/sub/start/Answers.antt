@@ -5,7 +5,7 @@ use mathlib.Core.Path.{ap, ap₂, ◌∙◌}
 use lib.IntN.{ℤ, pos, ◌*ℤ◌}
 use mir.Syntax.{w32}
 use mir.Facts.{to_z-of_z}
-use borrow.Author.Rules.{sfits_of, rules}
+use borrow.Author.Rules.{sfits_of}
 use Rattle.basis.proofs.Signed.{of_bits_lem}
 use Rattle.search.specs.Range.{clamped}
 use Rattle.full_search.proofs.Moves.{read_small}

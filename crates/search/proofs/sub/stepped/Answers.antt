@@ -8,7 +8,6 @@ use mir.Val.{SFits, to_z, of_z}
 use mir.ValLaws.{to_z-of_z, to_z_pos}
 use Rattle.basis.proofs.Bounds.{product_le}
 use Rattle.basis.proofs.Parts.{above-add, below-add, above-sub, below_sub, parts_fit}
-use borrow.Author.Rules.{rules}
 use Rattle.search.specs.Sub.{stepped}
 use Rattle.search.proofs.sub.stepped.Goals.{Start}
 use Rattle.search.proofs.sub.stepped.Goals as goal

@@ -1,6 +1,5 @@
 -- `search::sub::vector_sum` meets its contract.
 use Rattle.full_search.proofs.Sides.{area_most}
-use borrow.Author.Rules.{rules}
 use Rattle.search.proofs.sub.vector_sum.Goals as goal
 
 pub slice_bounds-predicted-end : goal.slice_bounds-predicted-end
