@@ -13,7 +13,7 @@ use Rattle.full_search.specs.declared.Lines.{Lines}
 use Rattle.full_search.specs.declared.Row.{Row}
 use Rattle.full_search.specs.declared.Scored.{Scored}
 use Rattle.full_search.specs.declared.Square.{Square}
-use Rattle.full_search.specs.Block.{blockIn, copied_sum}
+use Rattle.full_search.specs.Block.{block_in, copied_sum}
 use Rattle.full_search.specs.Costs.{zero_discount, consider}
 use Rattle.full_search.specs.Places.{right, down, distance, listed, row_place, row_of, square_row, square_of}
 use Rattle.full_search.specs.Full.{near_square, near_rows}
@@ -34,7 +34,7 @@ kept_by cost s r l e q = (e, kept_small cost l s r e q)
 
 module _ (side : ℕ) (source patch : List ℕ) (at : Lines) (discount : ℕ) (d : MotionVector) where
   abbrev cost_at : Plane → Point → MotionVector → ℕ
-  cost_at p corner = copied_cost discount (blockIn side source p corner)
+  cost_at p corner = copied_cost discount (block_in side source p corner)
 
   -- that is not listed
   pub passed_over : (s : Scored) {l : List MotionVector} → l ≡ [] → KeptOn side source patch at side d discount l s s
@@ -59,11 +59,11 @@ module _ (side : ℕ) (source patch : List ℕ) (at : Lines) (discount : ℕ) (d
     zero_here n f z p corner h =
         f
         ∙ ap (λ (k : ℕ). k - discount) (e ∙ shown_sum side p corner d source patch at h)
-        ∙ sym (zero_costs discount (copied_sum (blockIn side source p corner)) d z)
+        ∙ sym (zero_costs discount (copied_sum (block_in side source p corner)) d z)
 
     pub other_here : (distance d ≡ 0 → ⊥) → (p : Plane) (corner : Point) → Shown side p corner d patch at side → sum ≡ cost_at p corner d
     other_here z p corner h =
-        e ∙ shown_sum side p corner d source patch at h ∙ sym (other_costs discount (copied_sum (blockIn side source p corner)) d z)
+        e ∙ shown_sum side p corner d source patch at h ∙ sym (other_costs discount (copied_sum (block_in side source p corner)) d z)
 
 -- ---- a row
 
@@ -90,7 +90,7 @@ module _ (side : ℕ) (source patch : List ℕ) (at : Lines) (r : Row) (discount
       record {
         kept =
             λ p corner shown q.
-            let cost = copied_cost discount (blockIn side source p corner) in
+            let cost = copied_cost discount (block_in side source p corner) in
             let l = before.kept p corner shown q in
             let seen = shown_right side p corner r.from patch at (row_columns side r) (r.step * k) side (place_columns side r k h) shown in
             let there = subst (λ (v : MotionVector). Shown side p corner v patch (lines_right at (r.step * k)) side) (sym e) seen in
@@ -108,8 +108,8 @@ module _ (side : ℕ) (source patch : List ℕ) (at : Lines) (r : Row) (discount
 pub strip_kept : (side : ℕ) (source strip : List ℕ) (p : Plane) (corner : Point) (r : Row) (discount : ℕ) (s b : Scored)
     → strip ≡ copied_block p (moved_to corner r.from) (side + r.step * r.count) side
     → KeptOn side source strip (lines_from 0 (side + r.step * r.count)) (row_columns side r) r.from discount (row_of r) s b
-    → NoMoreThanZero (copied_cost discount (blockIn side source p corner)) s
-    → b ≡ kept_of (copied_cost discount (blockIn side source p corner)) s (row_of r)
+    → NoMoreThanZero (copied_cost discount (block_in side source p corner)) s
+    → b ≡ kept_of (copied_cost discount (block_in side source p corner)) s (row_of r)
 strip_kept side source strip p corner r discount s b e k q =
     let w = side + r.step * r.count in
     (k.kept p corner (narrower w (row_columns side r) (strip_columns side r.step r.count) (strip_shown p corner r.from w side strip e)) q).0
@@ -120,8 +120,8 @@ module _ (side : ℕ) (source patch : List ℕ) (from : MotionVector) (width hei
   -- whatever reference and place the patch is of: what the first j rows keep
   pub record RowsKept (j : ℕ) (b : Scored) : Type 0 where
     pub kept : (p : Plane) (corner : Point) → patch ≡ copied_block p (moved_to corner from) width height
-        → NoMoreThanZero (copied_cost discount (blockIn side source p corner)) s
-        → b ≡ kept_of (copied_cost discount (blockIn side source p corner)) s (rows j (λ i. row_of (line i)))
+        → NoMoreThanZero (copied_cost discount (block_in side source p corner)) s
+        → b ≡ kept_of (copied_cost discount (block_in side source p corner)) s (rows j (λ i. row_of (line i)))
 
   pub rows_none : RowsKept 0 s
   unfolding rows
@@ -136,7 +136,7 @@ module _ (side : ℕ) (source patch : List ℕ) (from : MotionVector) (width hei
       record {
         kept =
             λ p corner held small.
-            let cost = copied_cost discount (blockIn side source p corner) in
+            let cost = copied_cost discount (block_in side source p corner) in
             let l = before.kept p corner held small in
             let lines : Lines = record { first = by * width; stride = width } in
             let seen = narrower width (row_columns side (line j)) w (patch_shown p corner from width height side by patch h held) in
@@ -148,10 +148,10 @@ module _ (side : ℕ) (source patch : List ℕ) (from : MotionVector) (width hei
 
   -- all of them
   pub rows_all : (n j : ℕ) (b : Scored) → j ≡ n → RowsKept j b → (p : Plane) (corner : Point)
-      → patch ≡ copied_block p (moved_to corner from) width height → NoMoreThanZero (copied_cost discount (blockIn side source p corner)) s
-      → b ≡ kept_of (copied_cost discount (blockIn side source p corner)) s (rows n (λ i. row_of (line i)))
+      → patch ≡ copied_block p (moved_to corner from) width height → NoMoreThanZero (copied_cost discount (block_in side source p corner)) s
+      → b ≡ kept_of (copied_cost discount (block_in side source p corner)) s (rows n (λ i. row_of (line i)))
   rows_all n j b e k p corner held small =
-      let cost = copied_cost discount (blockIn side source p corner) in
+      let cost = copied_cost discount (block_in side source p corner) in
       k.kept p corner held small ∙ ap (λ (n : ℕ). kept_of cost s (rows n (λ i. row_of (line i)))) e
 
 -- ---- a square
@@ -179,8 +179,8 @@ module _ (side : ℕ) (source patch : List ℕ) (q : Square) (width discount : �
 
   -- all of them
   pub square_all : (j : ℕ) (b : Scored) → j ≡ q.count → SquareKept j b → (p : Plane) (corner : Point)
-      → patch ≡ copied_block p (moved_to corner q.from) width width → NoMoreThanZero (copied_cost discount (blockIn side source p corner)) s
-      → b ≡ kept_of (copied_cost discount (blockIn side source p corner)) s (square_of q)
+      → patch ≡ copied_block p (moved_to corner q.from) width width → NoMoreThanZero (copied_cost discount (block_in side source p corner)) s
+      → b ≡ kept_of (copied_cost discount (block_in side source p corner)) s (square_of q)
   unfolding square_of
   square_all = rows_all side source patch q.from width width discount (square_row q) s q.count
 
@@ -188,7 +188,7 @@ module _ (side : ℕ) (source patch : List ℕ) (q : Square) (width discount : �
 
 -- zero's sum, in the middle of its patch
 pub middle_sum : (source patch : List ℕ) (p : Plane) (corner : Point) → NearPatch patch p corner
-    → lines_sum 16 source 16 patch (lines_from 264 32) ≡ copied_sum (blockIn 16 source p corner) zero_vector
+    → lines_sum 16 source 16 patch (lines_from 264 32) ≡ copied_sum (block_in 16 source p corner) zero_vector
 middle_sum source patch p corner e =
     shown_sum 16 p corner zero_vector source patch (lines_from 264 32)
     (shown_right 16 p corner (down near_square.from 8) patch (record { first = 8 * 32; stride = 32 }) 32 8 16 (omega arith)
@@ -201,7 +201,7 @@ near_all source patch z j b m e k =
     record {
       kept =
           λ p corner held.
-          let cost = copied_cost zero_discount (blockIn 16 source p corner) in
+          let cost = copied_cost zero_discount (block_in 16 source p corner) in
           let zero = m.start p corner held in
           square_all 16 source patch near_square 32 zero_discount z j b e k p corner held (zero_small cost z zero)
           ∙ ap (λ (s : Scored). kept_of cost s near_rows) zero;

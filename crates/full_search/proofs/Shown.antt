@@ -11,7 +11,7 @@ use Rattle.record.specs.declared.MotionVector.{MotionVector}
 use Rattle.plane.specs.declared.Point.{Point}
 use Rattle.plane.specs.Plane.{Plane, sample_at}
 use Rattle.full_search.specs.declared.Lines.{Lines}
-use Rattle.full_search.specs.Block.{differences, blockIn, copied_sum}
+use Rattle.full_search.specs.Block.{differences, block_in, copied_sum}
 use Rattle.full_search.specs.Places.{right}
 use Rattle.full_search.specs.ToldPatch.{lines_sum, Shown, lines_right}
 
@@ -24,7 +24,7 @@ listed-place samples n i = ap (λ (m : ℕ). get_or samples m 0) (first n i)
 
 -- the sum on the patch
 pub shown_sum : (side : ℕ) (p : Plane) (corner : Point) (d : MotionVector) (source patch : List ℕ) (at : Lines) → Shown side p corner d patch at side
-    → lines_sum side source side patch at ≡ copied_sum (blockIn side source p corner) d
+    → lines_sum side source side patch at ≡ copied_sum (block_in side source p corner) d
 unfolding lines_sum copied_sum differences
 shown_sum side p corner d source patch at s =
     sum_to_cong side _ _ (λ j hj. sum_to_cong side _ _ (λ i hi. ap (abs_diff (get_or source (j * side + i) 0)) (s.same i j hi hj)))

@@ -132,9 +132,9 @@ module _ (source samples : List ℕ) (t : Target) where
 
   module _ (w : ℕ) where
     -- one vector
-    pub sixteen-is : sixteen_reply (length source) (length samples) t w ≡ Done → Ready source samples t × (t.side ≡ 16) × (w ≤ 1023)
+    pub sixteen_is : sixteen_reply (length source) (length samples) t w ≡ Done → Ready source samples t × (t.side ≡ 16) × (w ≤ 1023)
     unfolding sixteen_reply
-    sixteen-is e =
+    sixteen_is e =
         let place = placed_reply (length samples) t in
         let square = square_reply 16 (length source) t in
         let k = then_done (window_reply w) (and_then place square) e in

@@ -18,7 +18,7 @@ use Rattle.quantise.specs.Block.{weight_reply}
 use Rattle.search.specs.Request.{SearchRequest, search_request, settings_reply, search_reply}
 use Rattle.search.proofs.Answered.{search_taken}
 use Rattle.coding.specs.Told.{Whole, Quantisable}
-use Rattle.macroblock.specs.Request.{Request, quantising_in, lengths_reply, choice_reply, request_reply, lengths_of, replyOf}
+use Rattle.macroblock.specs.Request.{Request, quantising_in, lengths_reply, choice_reply, request_reply, lengths_of, reply_of}
 
 -- 12
 pub record Lent (q : Request) : Type 0 where
@@ -73,7 +73,7 @@ pub record Accepted (q : Request) : Type 0 where
   pub quantisable : Quantisable (quantising_in q)
   pub lent_is : Lent q
 
-pub accepted : (q : Request) → replyOf q ≡ Done → Accepted q
+pub accepted : (q : Request) → reply_of q ≡ Done → Accepted q
 unfolding request_reply
 accepted q e =
     let s = settings_reply q.settings.fcode q.settings.mode q.settings.bpp in

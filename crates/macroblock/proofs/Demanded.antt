@@ -30,7 +30,7 @@ use Rattle.coding.specs.Coding.{levels_of, areas_of}
 use Rattle.coding.specs.Told.{Quantisable}
 use Rattle.coding.proofs.Levels.{levels-back}
 use Rattle.coding.proofs.Nearness.{all_near}
-use Rattle.macroblock.specs.Request.{Request, source, residual, search_in, sought_in, quantising_in, replyOf}
+use Rattle.macroblock.specs.Request.{Request, source, residual, search_in, sought_in, quantising_in, reply_of}
 use Rattle.macroblock.specs.Answer.{Answer, four_of, searched_of, record_at, answer_by, answer_of}
 use Rattle.macroblock.specs.Demand.{Demand, handed, sum_over, one_sum, block_sum, coefficient_at, read_level_at, read_inverse_at}
 use Rattle.macroblock.proofs.Answers.{given, done_answer}
@@ -156,5 +156,5 @@ pub demanded_by : (q : Request) (r : Reply) → r ≡ Done → Quantisable (quan
 demanded_by q r e set = subst (Demand 0 q) (done_answer q r _ _ e refl refl) (made_demanded 0 q set)
 
 -- THE THEOREM
-pub demanded : (q : Request) → replyOf q ≡ Done → Demand 0 q (answer_of q)
-demanded q e = demanded_by q (replyOf q) e (accepted q e).quantisable
+pub demanded : (q : Request) → reply_of q ≡ Done → Demand 0 q (answer_of q)
+demanded q e = demanded_by q (reply_of q) e (accepted q e).quantisable

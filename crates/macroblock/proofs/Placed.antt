@@ -25,7 +25,7 @@ use Rattle.prediction.specs.Planes.{chroma_geometry, lengths_in, planes_reply}
 use Rattle.quantise.specs.Block.{no_zero, weight_reply}
 use Rattle.search.specs.Request.{settings_reply}
 use Rattle.macroblock.specs.declared.Lengths.{Lengths}
-use Rattle.macroblock.specs.Request.{Request, areas_long, lengths_reply, choice_reply, request_reply, lengths_of, replyOf}
+use Rattle.macroblock.specs.Request.{Request, areas_long, lengths_reply, choice_reply, request_reply, lengths_of, reply_of}
 use Rattle.macroblock.specs.Predicted.{PredictedRequest, predicted_reply, predicted_reply_of}
 
 -- the groups of a request's list
@@ -77,7 +77,7 @@ choice_other vectors scan =
     unless_other ((eqb vectors 1 || eqb vectors 4) && between 0 2 scan) Choice (λ e. omega arith) (done_other (omega arith))
 
 -- THE LAW
-pub never_8 : (q : Request) → place_reply q.size q.place ≡ Done → code_of (replyOf q) ≡ 8 → ⊥
+pub never_8 : (q : Request) → place_reply q.size q.place ≡ Done → code_of (reply_of q) ≡ 8 → ⊥
 unfolding request_reply
 never_8 q e =
     (and_then_other _ (settings_other q.settings.fcode q.settings.mode q.settings.bpp)

@@ -118,14 +118,14 @@ near q f range low =
     let small : nat_abs f ≤ 2048 = size_in 2047 2047 f range (omega arith) in
     let n = quotient_by_quantiser q f in
     let uncut : min n 2047 ≡ n = let b = (bounds (nat_abs f) q small low).2 in omega arith in
-    let level-is : level_by_quantiser q f ≡ signed f n = signed_cut f n ∙ ap (signed f) uncut in
-    let size_is : nat_abs (level_by_quantiser q f) ≡ n = ap nat_abs level-is ∙ size_signed f n in
+    let level_is : level_by_quantiser q f ≡ signed f n = signed_cut f n ∙ ap (signed f) uncut in
+    let size_is : nat_abs (level_by_quantiser q f) ≡ n = ap nat_abs level_is ∙ size_signed f n in
     record {
       kept = λ some.
-          let more : 0 < n = positive n (λ z. some (level-is ∙ ap (signed f) z ∙ none f)) in
+          let more : 0 < n = positive n (λ z. some (level_is ∙ ap (signed f) z ∙ none f)) in
           subst (λ (z : ℤ). nat_abs (z -ℤ f) ≤ tolerance q)
           (sym
-          (ap (inverse_by_quantiser q) level-is
+          (ap (inverse_by_quantiser q) level_is
           ∙ else (eqb (nat_abs (signed f n)) 0) _ _ (ne_eqb _ 0 (λ z. absurd (clash n more (sym (size_signed f n) ∙ z))))
           ∙ ap (λ (m : ℕ). cut_to (negsuc 2047) (pos 2047) (signed (signed f n) (inverse_size q m))) (size_signed f n)
           ∙ ap (cut_to (negsuc 2047) (pos 2047)) (sign_signed f n (inverse_size q n) more)))

@@ -38,9 +38,9 @@ buffer_copy rc max w h fx fy r block rest a b p q e =
     fx fy p q)
 
 -- two steps at the fractions of a place
-pub place-by-steps : (rc max w h fx fy n : ℕ) (s : Source) (out : List ℕ) → fx < 4 → fy < 4 → n ≡ fx + 4 * fy
+pub place_by_steps : (rc max w h fx fy n : ℕ) (s : Source) (out : List ℕ) → fx < 4 → fy < 4 → n ≡ fx + 4 * fy
     → out ≡ raster w h (step_both rc max fx fy s) → out ≡ raster w h (place rc max s n)
-place-by-steps rc max w h fx fy n s out p q e o =
+place_by_steps rc max w h fx fy n s out p q e o =
     o ∙ raster_cong w h (step_both rc max fx fy s) (place rc max s n)
     (λ i j a b. two_steps rc max s i j fx fy p q ∙ ap (λ (m : ℕ). place rc max s m i j) (sym e))
 

@@ -22,7 +22,7 @@ use Rattle.plane.proofs.Ready.{reference_done}
 use Rattle.prediction.specs.Luma.{whole_vector}
 use Rattle.full_search.specs.declared.Scored.{Scored}
 use Rattle.full_search.specs.declared.Target.{Target}
-use Rattle.full_search.specs.Block.{Block, eight, blockIn, block_of, copied_sum}
+use Rattle.full_search.specs.Block.{Block, eight, block_in, block_of, copied_sum}
 use Rattle.full_search.specs.Full.{four_winner}
 use Rattle.full_search.specs.Told.{Inside}
 use Rattle.full_search.proofs.EqualSums.{differences_cong}
@@ -92,7 +92,7 @@ module _ (s : SearchSettings) (seed : MotionVector) where
       let corner = block_corner t.corner n in
       vector_cong (block_of (eight_of l n) samples (eight_target t n)) (record { side = 8; source = part_of l n; reference = p; corner = corner })
       (source_sums s 8 (part_of l n) p corner)
-      ∙ ap (λ (side : ℕ). block_vector s seed (eight (blockIn side l p t.corner) n)) (sym e)
+      ∙ ap (λ (side : ℕ). block_vector s seed (eight (block_in side l p t.corner) n)) (sym e)
 
   -- ---- the four of a macroblock whose source is laid out as a list
 

@@ -27,8 +27,8 @@ units_most (QuarterPel bpp) = omega arith
 
 module _ (sum : MotionVector → ℕ) (s : SearchSettings) (d : MotionVector) where
   -- the best of the start and so many rings
-  abbrev bestOf : ℕ → Scored
-  bestOf n = at_cost sum (best sum (start s d) (grown sum (start s d) (λ c k. ring s.fcode (ring_step s.mode k) c) [] n))
+  abbrev best_of : ℕ → Scored
+  best_of n = at_cost sum (best sum (start s d) (grown sum (start s d) (λ c k. ring s.fcode (ring_step s.mode k) c) [] n))
 
   -- what the half ring keeps
   abbrev pub half_kept : Scored
@@ -39,7 +39,7 @@ module _ (sum : MotionVector → ℕ) (s : SearchSettings) (d : MotionVector) wh
   unfolding refined sub_rest grown best
   refine_half e =
       search_best sum (start s d) (ring s.fcode (units_per_pel s.mode / 2) (start s d))
-      ∙ ap (λ (m : BVopSampleMode). bestOf (rings m)) (sym e)
+      ∙ ap (λ (m : BVopSampleMode). best_of (rings m)) (sym e)
 
   -- in quarter mode the second ring, around what the first kept
   pub refine_quarter : (bpp : ℕ) → s.mode ≡ QuarterPel bpp
@@ -48,7 +48,7 @@ module _ (sum : MotionVector → ℕ) (s : SearchSettings) (d : MotionVector) wh
   refine_quarter bpp e =
       let l = ring s.fcode (units_per_pel s.mode / 2) (start s d) in
       rw (search_best sum (start s d) l) (search_more sum (start s d) l (ring s.fcode 1 (best sum (start s d) l)))
-      ∙ ap (λ (m : BVopSampleMode). bestOf (rings m)) (sym e)
+      ∙ ap (λ (m : BVopSampleMode). best_of (rings m)) (sym e)
 
 -- ---- the range
 
@@ -69,9 +69,9 @@ ring_in fcode step c = all_rows (In fcode) _ 9 (λ n p. at n (eqb n 4))
     at n false = (neighbour_in fcode step c n, tt)
 
 -- what a ring's search keeps is in range
-pub ring-best_in : (sum : MotionVector → ℕ) (fcode step : ℕ) (a : MotionVector) (s : Scored)
+pub ring_best_in : (sum : MotionVector → ℕ) (fcode step : ℕ) (a : MotionVector) (s : Scored)
     → s ≡ foldl (consider sum) (at_cost sum a) (ring fcode step a) → vector_in fcode a ≡ true → vector_in fcode s.vector ≡ true
-ring-best_in sum fcode step a s e p =
+ring_best_in sum fcode step a s e p =
     let l = ring fcode step a in
     rw (e ∙ search_best sum a l) (best_all (In fcode) sum a l p (ring_in fcode step a))
 

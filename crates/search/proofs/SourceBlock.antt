@@ -13,7 +13,7 @@ use Rattle.plane.specs.declared.MacroblockPlace.{MacroblockPlace}
 use Rattle.plane.specs.Corner.{corner_of}
 use Rattle.plane.specs.Plane.{Plane, copied}
 use Rattle.plane.specs.Source.{packed, source_luma}
-use Rattle.full_search.specs.Block.{Block, blockIn}
+use Rattle.full_search.specs.Block.{Block, block_in}
 use Rattle.full_search.specs.Told.{Ready}
 use Rattle.search.specs.declared.SearchSettings.{SearchSettings}
 use Rattle.search.specs.Told.{Judged, Placed, macroblock_target}
@@ -25,7 +25,7 @@ module _ (f : ℕ → ℕ → ℕ) (p : Plane) (corner : Point) where
   given = record { side = 16; source = f; reference = p; corner = corner }
 
   abbrev pub laid : Block
-  laid = blockIn 16 (raster 16 16 f) p corner
+  laid = block_in 16 (raster 16 16 f) p corner
 
 -- ---- a macroblock that is not refused
 

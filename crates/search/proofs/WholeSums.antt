@@ -13,7 +13,7 @@ use Rattle.plane.specs.Plane.{Plane, copied}
 use Rattle.prediction.specs.Luma.{whole_vector, predicted_sample, predicted_block}
 use Rattle.prediction.proofs.LumaAt.{luma_at_lem}
 use Rattle.prediction.proofs.Whole.{whole_place}
-use Rattle.full_search.specs.Block.{differences, Block, row_by_row, blockIn, copied_sum}
+use Rattle.full_search.specs.Block.{differences, Block, row_by_row, block_in, copied_sum}
 use Rattle.full_search.proofs.EqualSums.{differences_cong, laid_out}
 use Rattle.search.specs.declared.SearchSettings.{SearchSettings}
 use Rattle.search.specs.Sums.{vector_sum, whole_sum}
@@ -39,7 +39,7 @@ whole_any s s' b = sym (copied_whole s b) ∙ copied_whole s' b
 
 -- a source block that was laid out as a list has the sums of the source
 pub source_sums : (s : SearchSettings) (side : ℕ) (f : ℕ → ℕ → ℕ) (p : Plane) (corner : Point)
-    → vector_sum s (blockIn side (raster side side f) p corner) ≡ vector_sum s (record { side = side; source = f; reference = p; corner = corner })
+    → vector_sum s (block_in side (raster side side f) p corner) ≡ vector_sum s (record { side = side; source = f; reference = p; corner = corner })
 unfolding vector_sum
 source_sums s side f p corner =
     fun_ext (λ v. differences_cong side (row_by_row side (raster side side f)) f _ _ (laid_out side f) (λ i j a b. refl))

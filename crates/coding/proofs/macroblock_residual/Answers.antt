@@ -9,8 +9,8 @@ use Rattle.coding.proofs.Accepted.{residual_accepted}
 use Rattle.coding.proofs.macroblock_residual.Goals.{In-Done, Start}
 use Rattle.coding.proofs.macroblock_residual.Goals as goal
 
-abbrev lentIn : Start → Samples
-lentIn s = samples s.args.pred_y.now s.args.pred_cb.now s.args.pred_cr.now
+abbrev lent_in : Start → Samples
+lent_in s = samples s.args.pred_y.now s.args.pred_cb.now s.args.pred_cr.now
 
 abbrev start_at : In-Done → Start
 start_at c = (goal.at.In-Done c).Start
@@ -22,7 +22,7 @@ accepted c = sym c.residual_reply-reply.ensures ∙ c.in-Done.is
 
 pub macroblock_residual-requires : goal.macroblock_residual-requires
 macroblock_residual-requires c =
-    residual_accepted _ _ _ _ _ (lentIn (goal.at.macroblock_residual-requires c).Start) _ (accepted (goal.at.macroblock_residual-requires c).In-Done)
+    residual_accepted _ _ _ _ _ (lent_in (goal.at.macroblock_residual-requires c).Start) _ (accepted (goal.at.macroblock_residual-requires c).In-Done)
 
 pub returns-in-Refused : goal.returns-in-Refused
 returns-in-Refused c = record {

@@ -10,19 +10,19 @@ use Rattle.full_search.proofs.Taken.{eight_is}
 use Rattle.full_search.proofs.search_eight.Goals.{In-Done, Start}
 use Rattle.full_search.proofs.search_eight.Goals as goal
 
-abbrev replyOf : Start → Reply
-replyOf s = let a = s.args in eight_reply (length a.source.now) (length a.reference.now) a.target a.window a.seed
+abbrev reply_of : Start → Reply
+reply_of s = let a = s.args in eight_reply (length a.source.now) (length a.reference.now) a.target a.window a.seed
 
-abbrev bestOf : Start → Scored
-bestOf s = let a = s.args in eight_best (block_of a.source.now a.reference.now a.target) a.mode a.window a.seed
+abbrev best_of : Start → Scored
+best_of s = let a = s.args in eight_best (block_of a.source.now a.reference.now a.target) a.mode a.window a.seed
 
 -- what is answered, by the reply
-answered : (s : Start) (r : Reply) → r ≡ replyOf s
-    → let a = s.args in won r (bestOf s) ≡ eight_won a.source.now a.reference.now a.target a.mode a.window a.seed
+answered : (s : Start) (r : Reply) → r ≡ reply_of s
+    → let a = s.args in won r (best_of s) ≡ eight_won a.source.now a.reference.now a.target a.mode a.window a.seed
 unfolding eight_won
-answered s r e = ap (λ (x : Reply). won x (bestOf s)) e
+answered s r e = ap (λ (x : Reply). won x (best_of s)) e
 
-is_done : (c : In-Done) → replyOf (goal.at.In-Done c).Start ≡ Done
+is_done : (c : In-Done) → reply_of (goal.at.In-Done c).Start ≡ Done
 is_done c = sym c.eight_reply.ensures ∙ c.in-Done.is
 
 pub four_search-best-requires : goal.four_search-best-requires

@@ -12,18 +12,18 @@ use Rattle.full_search.proofs.WindowSums.{window_is, standing_sum}
 use Rattle.full_search.proofs.window_sum.Goals.{In-Done, Start}
 use Rattle.full_search.proofs.window_sum.Goals as goal
 
-abbrev replyOf : Start → Reply
-replyOf s = let a = s.args in window_sum_reply (length a.source.now) (length a.window.now) a.at a.stride a.side
+abbrev reply_of : Start → Reply
+reply_of s = let a = s.args in window_sum_reply (length a.source.now) (length a.window.now) a.at a.stride a.side
 
 abbrev sum_at : Start → ℕ
 sum_at s = let a = s.args in differences a.side (row_by_row a.side a.source.now) (window_at a.window.now a.at a.stride)
 
 -- what is answered, by the reply
-answered : (s : Start) (r : Reply) → r ≡ replyOf s → let a = s.args in done r (sum_at s) 0 ≡ window_sum_of a.source.now a.window.now a.at a.stride a.side
+answered : (s : Start) (r : Reply) → r ≡ reply_of s → let a = s.args in done r (sum_at s) 0 ≡ window_sum_of a.source.now a.window.now a.at a.stride a.side
 unfolding window_sum_of
 answered s r e = ap (λ (x : Reply). done x (sum_at s) 0) e
 
-is_done : (c : In-Done) → replyOf (goal.at.In-Done c).Start ≡ Done
+is_done : (c : In-Done) → reply_of (goal.at.In-Done c).Start ≡ Done
 is_done c = sym c.window_sum_reply.ensures ∙ c.in-Done.is
 
 pub block-requires : goal.block-requires

@@ -2,7 +2,7 @@
 use mathlib.Core.Path.{◌≡◌, sym, subst, ◌∙◌}
 use Rattle.refusal.specs.declared.Reply.TheVariants.{Done}
 use Rattle.refusal.proofs.Replies.{not_done}
-use Rattle.macroblock.specs.Request.{Request, request, replyOf}
+use Rattle.macroblock.specs.Request.{Request, request, reply_of}
 use Rattle.macroblock.specs.Demand.{Demand}
 use Rattle.macroblock.proofs.Answers.{refused_answer, done_answer}
 use Rattle.macroblock.proofs.Demanded.{demanded}
@@ -18,7 +18,7 @@ asked s =
 abbrev start_at : After-request_reply → Start
 start_at c = (goal.at.After-request_reply c).Start
 
-taken : (c : In-Done) → replyOf (asked (goal.at.In-Done c).Start) ≡ Done
+taken : (c : In-Done) → reply_of (asked (goal.at.In-Done c).Start) ≡ Done
 taken c = sym c.request_reply.ensures ∙ c.in-Done.is
 
 pub code_ready-record-requires : goal.code_ready-record-requires

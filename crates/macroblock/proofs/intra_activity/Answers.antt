@@ -20,13 +20,13 @@ fits Done = refl
 fits (Refused why) = refl
 
 -- the answer, by its reply
-abbrev answerAt : Start → Reply → Activity
-answerAt s r = record { reply = r; sum = done r (activity_of (source_luma s.args.y.now s.args.size s.args.place)) 0 }
+abbrev answer_at : Start → Reply → Activity
+answer_at s r = record { reply = r; sum = done r (activity_of (source_luma s.args.y.now s.args.size s.args.place)) 0 }
 
-answer-is : (s : Start) → let a = s.args in
-    answerAt s (source_luma_reply a.size (length a.y.now) a.place) ≡ intra_activity a.y.now a.size a.place
+answer_is : (s : Start) → let a = s.args in
+    answer_at s (source_luma_reply a.size (length a.y.now) a.place) ≡ intra_activity a.y.now a.size a.place
 unfolding intra_activity
-answer-is s = refl
+answer_is s = refl
 
 abbrev start_at : After-luma_block → Start
 start_at c = (goal.at.After-luma_block c).Start
@@ -37,7 +37,7 @@ replied c = let a = c.args in c.luma_block.ensures.value ∙ fits (source_luma_r
 
 pub returns-in-Refused : goal.returns-in-Refused
 returns-in-Refused c =
-    ap (answerAt (goal.at.returns-in-Refused c).Start) (sym c.in-Refused.is ∙ replied (goal.at.returns-in-Refused c).After-luma_block) ∙ answer-is (goal.at.returns-in-Refused c).Start
+    ap (answer_at (goal.at.returns-in-Refused c).Start) (sym c.in-Refused.is ∙ replied (goal.at.returns-in-Refused c).After-luma_block) ∙ answer_is (goal.at.returns-in-Refused c).Start
 
 pub returns-in-Done : goal.returns-in-Done
 returns-in-Done c =
@@ -46,5 +46,5 @@ returns-in-Done c =
     let copied : c.luma_block.new.out ≡ source_luma a.y.now a.size a.place =
     left _ Done _ _ _ is refl c.luma_block.ensures.out_after in
     ap (λ (n : ℕ). record { reply = Done; sum = n }) (c.activity.ensures ∙ ap activity_of copied)
-    ∙ ap (answerAt (goal.at.returns-in-Done c).Start) (sym is ∙ replied (goal.at.returns-in-Done c).After-luma_block)
-    ∙ answer-is (goal.at.returns-in-Done c).Start
+    ∙ ap (answer_at (goal.at.returns-in-Done c).Start) (sym is ∙ replied (goal.at.returns-in-Done c).After-luma_block)
+    ∙ answer_is (goal.at.returns-in-Done c).Start

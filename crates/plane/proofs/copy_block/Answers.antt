@@ -13,24 +13,24 @@ use Rattle.plane.proofs.Ready.{usable, length_is}
 use Rattle.plane.proofs.copy_block.Goals.{After-and_then-reply, In-Done, Start}
 use Rattle.plane.proofs.copy_block.Goals as goal
 
-abbrev referenceOf : Start → Reply
-referenceOf s = reference_reply s.args.geometry (length s.args.samples.now)
+abbrev reference_of : Start → Reply
+reference_of s = reference_reply s.args.geometry (length s.args.samples.now)
 
 abbrev length_of : Start → Reply
 length_of s = length_reply (length s.args.out.now) s.args.w s.args.h
 
-answered : (c : After-and_then-reply) → c.and_then-reply.result ≡ and_then (referenceOf (goal.at.After-and_then-reply c).Start) (length_of (goal.at.After-and_then-reply c).Start)
+answered : (c : After-and_then-reply) → c.and_then-reply.result ≡ and_then (reference_of (goal.at.After-and_then-reply c).Start) (length_of (goal.at.After-and_then-reply c).Start)
 answered c = joined c.and_then-reply.ensures c.reference_reply.ensures c.length_reply.ensures
 
 -- what holds where nothing is refused
-ready : (c : In-Done) → and_then (referenceOf (goal.at.In-Done c).Start) (length_of (goal.at.In-Done c).Start) ≡ Done
+ready : (c : In-Done) → and_then (reference_of (goal.at.In-Done c).Start) (length_of (goal.at.In-Done c).Start) ≡ Done
 ready c = sym (answered (goal.at.In-Done c).After-and_then-reply) ∙ c.in-Done.is
 
 pub copy_rows-requires : goal.copy_rows-requires
 copy_rows-requires c =
     let e = ready (goal.at.copy_rows-requires c).In-Done in (
-      (usable _ _ (first_done (referenceOf (goal.at.copy_rows-requires c).Start) (length_of (goal.at.copy_rows-requires c).Start) e)).hold,
-      length_is _ _ _ (then_done (referenceOf (goal.at.copy_rows-requires c).Start) (length_of (goal.at.copy_rows-requires c).Start) e) ∙ mul_comm c.args.w c.args.h,
+      (usable _ _ (first_done (reference_of (goal.at.copy_rows-requires c).Start) (length_of (goal.at.copy_rows-requires c).Start) e)).hold,
+      length_is _ _ _ (then_done (reference_of (goal.at.copy_rows-requires c).Start) (length_of (goal.at.copy_rows-requires c).Start) e) ∙ mul_comm c.args.w c.args.h,
     )
 
 pub returns-in-Refused : goal.returns-in-Refused
@@ -56,5 +56,5 @@ returns-else-w-ne0 c =
     let h = c.args.h in
     let none : w * h ≡ 0 = ap (λ (n : ℕ). n * h) c.if-w-ne0.false ∙ zero-mul h in record {
       value = sym e;
-      out_after = empty_same _ _ (length_is _ _ _ (then_done (referenceOf (goal.at.returns-else-w-ne0 c).Start) (length_of (goal.at.returns-else-w-ne0 c).Start) e) ∙ none) (length-raster _ _ _ ∙ mul_comm h w ∙ none);
+      out_after = empty_same _ _ (length_is _ _ _ (then_done (reference_of (goal.at.returns-else-w-ne0 c).Start) (length_of (goal.at.returns-else-w-ne0 c).Start) e) ∙ none) (length-raster _ _ _ ∙ mul_comm h w ∙ none);
     }

@@ -13,8 +13,8 @@ use Rattle.predicting.proofs.predict_luma_block.Goals as goal
 
 module _ (s : Start) where
   -- the reply and the samples, in a mode
-  abbrev replyIn : BVopSampleMode → Reply
-  replyIn m = let a = s.args in predict_reply m a.geometry (length a.samples.now) a.vector a.site a.rounding (length a.out.now)
+  abbrev reply_in : BVopSampleMode → Reply
+  reply_in m = let a = s.args in predict_reply m a.geometry (length a.samples.now) a.vector a.site a.rounding (length a.out.now)
 
   abbrev luma_in : BVopSampleMode → List ℕ
   luma_in m = let a = s.args in predicted_block m (plane_of a.samples.now a.geometry) a.site a.rounding a.vector
@@ -23,7 +23,7 @@ pub returns-in-Refused : goal.returns-in-Refused
 returns-in-Refused c =
     let e = sym c.in-Refused.is ∙ c.mode_number_reply-known.ensures in
     record {
-      value = ap (λ (r : Reply). and_then r (replyIn (goal.at.returns-in-Refused c).Start (mode_of c.args.mode c.args.bpp))) e;
+      value = ap (λ (r : Reply). and_then r (reply_in (goal.at.returns-in-Refused c).Start (mode_of c.args.mode c.args.bpp))) e;
       out_after = refl;
     }
 
@@ -32,6 +32,6 @@ returns-in-Done c =
     let e = sym c.in-Done.is ∙ c.mode_number_reply-known.ensures in
     let u = c.mode_of-units.ensures in
     let p = c.predict_luma_block.ensures in record {
-      value = p.value ∙ ap (replyIn (goal.at.returns-in-Done c).Start) u ∙ ap (λ (r : Reply). and_then r (replyIn (goal.at.returns-in-Done c).Start (mode_of c.args.mode c.args.bpp))) e;
+      value = p.value ∙ ap (reply_in (goal.at.returns-in-Done c).Start) u ∙ ap (λ (r : Reply). and_then r (reply_in (goal.at.returns-in-Done c).Start (mode_of c.args.mode c.args.bpp))) e;
       out_after = p.out_after ∙ ap (λ (m : BVopSampleMode). done c.predict_luma_block.result (luma_in (goal.at.returns-in-Done c).Start m) c.args.out.now) u;
     }

@@ -19,8 +19,8 @@ module _ (s : Start) where
   areas = let a = s.args in samples a.y.now a.cb.now a.cr.now
 
   -- the reply and the samples, in a mode
-  abbrev replyIn : BVopSampleMode → Reply
-  replyIn m =
+  abbrev reply_in : BVopSampleMode → Reply
+  reply_in m =
       let a = s.args in
       prediction_reply m a.geometry (lengths_in reference) a.motion a.place a.rounding (lengths_in areas)
 
@@ -30,13 +30,13 @@ module _ (s : Start) where
 pub returns-in-Refused : goal.returns-in-Refused
 returns-in-Refused c =
     let e = sym c.in-Refused.is ∙ c.mode_number_reply-known.ensures in
-    (ap (λ (r : Reply). and_then r (replyIn (goal.at.returns-in-Refused c).Start (mode_of c.args.mode c.args.bpp))) e, refl)
+    (ap (λ (r : Reply). and_then r (reply_in (goal.at.returns-in-Refused c).Start (mode_of c.args.mode c.args.bpp))) e, refl)
 
 pub returns-in-Done : goal.returns-in-Done
 returns-in-Done c =
     let e = sym c.in-Done.is ∙ c.mode_number_reply-known.ensures in
     let u = c.mode_of-units.ensures in
     let p = c.predict_macroblock.ensures in (
-      p.0 ∙ ap (replyIn (goal.at.returns-in-Done c).Start) u ∙ ap (λ (r : Reply). and_then r (replyIn (goal.at.returns-in-Done c).Start (mode_of c.args.mode c.args.bpp))) e,
+      p.0 ∙ ap (reply_in (goal.at.returns-in-Done c).Start) u ∙ ap (λ (r : Reply). and_then r (reply_in (goal.at.returns-in-Done c).Start (mode_of c.args.mode c.args.bpp))) e,
       p.1 ∙ ap (λ (m : BVopSampleMode). done c.predict_macroblock.result (samples_in (goal.at.returns-in-Done c).Start m) (areas (goal.at.returns-in-Done c).Start)) u,
     )

@@ -14,26 +14,26 @@ use Rattle.prediction.proofs.interpolate_block.Goals.{Start}
 use Rattle.prediction.proofs.interpolate_block.Goals as goal
 
 -- the reply and the block in a mode
-abbrev replyIn : Start → BVopSampleMode → Reply
-replyIn s m = let a = s.args in interpolation_reply m a.geometry (length a.samples.now) a.vector a.site (length a.out.now)
+abbrev reply_in : Start → BVopSampleMode → Reply
+reply_in s m = let a = s.args in interpolation_reply m a.geometry (length a.samples.now) a.vector a.site (length a.out.now)
 
-abbrev blockIn : Start → BVopSampleMode → List ℕ
-blockIn s m = let a = s.args in predicted_block m (plane_of a.samples.now a.geometry) a.site a.rounding a.vector
+abbrev block_in : Start → BVopSampleMode → List ℕ
+block_in s m = let a = s.args in predicted_block m (plane_of a.samples.now a.geometry) a.site a.rounding a.vector
 
 pub returns-in-HalfPel : goal.returns-in-HalfPel
 unfolding predicted_block half_block
 returns-in-HalfPel c =
     let e = c.in-HalfPel.is in record {
-      value = c.interpolate_block_into.ensures.value ∙ ap (replyIn (goal.at.returns-in-HalfPel c).Start) (sym e);
+      value = c.interpolate_block_into.ensures.value ∙ ap (reply_in (goal.at.returns-in-HalfPel c).Start) (sym e);
       out_after = c.interpolate_block_into.ensures.out_after
-          ∙ ap (λ (m : BVopSampleMode). done c.interpolate_block_into.result (blockIn (goal.at.returns-in-HalfPel c).Start m) c.args.out.now) (sym e);
+          ∙ ap (λ (m : BVopSampleMode). done c.interpolate_block_into.result (block_in (goal.at.returns-in-HalfPel c).Start m) c.args.out.now) (sym e);
     }
 
 pub returns-in-QuarterPel : goal.returns-in-QuarterPel
 unfolding predicted_block quarter_block
 returns-in-QuarterPel c =
     let e = c.in-QuarterPel.is in record {
-      value = c.interpolate_block_qpel_into.ensures.value ∙ ap (replyIn (goal.at.returns-in-QuarterPel c).Start) (sym e);
+      value = c.interpolate_block_qpel_into.ensures.value ∙ ap (reply_in (goal.at.returns-in-QuarterPel c).Start) (sym e);
       out_after = c.interpolate_block_qpel_into.ensures.out_after
-          ∙ ap (λ (m : BVopSampleMode). done c.interpolate_block_qpel_into.result (blockIn (goal.at.returns-in-QuarterPel c).Start m) c.args.out.now) (sym e);
+          ∙ ap (λ (m : BVopSampleMode). done c.interpolate_block_qpel_into.result (block_in (goal.at.returns-in-QuarterPel c).Start m) c.args.out.now) (sym e);
     }

@@ -13,8 +13,8 @@ use Rattle.prediction.proofs.interpolation_reply.Goals.{After-block_numbers_repl
 use Rattle.prediction.proofs.interpolation_reply.Goals as goal
 
 -- the reply in a mode
-abbrev replyIn : Start → BVopSampleMode → Reply
-replyIn s m = let a = s.args in interpolation_reply m a.geometry a.bytes a.vector a.site a.area
+abbrev reply_in : Start → BVopSampleMode → Reply
+reply_in s m = let a = s.args in interpolation_reply m a.geometry a.bytes a.vector a.site a.area
 
 -- what is replied of the block, whatever the mode
 block_is : (b : After-block_numbers_reply-block) → let a = b.args in
@@ -28,9 +28,9 @@ block_is b =
 
 pub returns-in-HalfPel : goal.returns-in-HalfPel
 returns-in-HalfPel c =
-    block_is (goal.at.returns-in-HalfPel c).After-block_numbers_reply-block ∙ ap (replyIn (goal.at.returns-in-HalfPel c).Start) (sym c.in-HalfPel.is)
+    block_is (goal.at.returns-in-HalfPel c).After-block_numbers_reply-block ∙ ap (reply_in (goal.at.returns-in-HalfPel c).Start) (sym c.in-HalfPel.is)
 
 pub returns-in-QuarterPel : goal.returns-in-QuarterPel
 unfolding quarter_reply
 returns-in-QuarterPel c =
-    joined c.and_then.ensures c.bits_reply.ensures (block_is (goal.at.returns-in-QuarterPel c).After-block_numbers_reply-block) ∙ ap (replyIn (goal.at.returns-in-QuarterPel c).Start) (sym c.in-QuarterPel.is)
+    joined c.and_then.ensures c.bits_reply.ensures (block_is (goal.at.returns-in-QuarterPel c).After-block_numbers_reply-block) ∙ ap (reply_in (goal.at.returns-in-QuarterPel c).Start) (sym c.in-QuarterPel.is)

@@ -13,8 +13,8 @@ use Rattle.prediction.proofs.predict_luma_block.Goals.{Start}
 use Rattle.prediction.proofs.predict_luma_block.Goals as goal
 
 -- what interpolation replies, and the block
-abbrev replyAt : Start → Reply
-replyAt s = let a = s.args in interpolation_reply a.mode a.geometry (length a.samples.now) a.vector a.site (length a.out.now)
+abbrev reply_at : Start → Reply
+reply_at s = let a = s.args in interpolation_reply a.mode a.geometry (length a.samples.now) a.vector a.site (length a.out.now)
 
 abbrev block_at : Start → List ℕ
 block_at s = let a = s.args in predicted_block a.mode (plane_of a.samples.now a.geometry) a.site a.rounding a.vector
@@ -31,6 +31,6 @@ pub returns-in-Done : goal.returns-in-Done
 unfolding predict_reply
 returns-in-Done c =
     let none = sym c.in-Done.is ∙ c.rounding_reply.ensures in record {
-      value = c.interpolate_block.ensures.value ∙ sym (then_nothing _) ∙ ap (and_then (replyAt (goal.at.returns-in-Done c).Start)) none;
+      value = c.interpolate_block.ensures.value ∙ sym (then_nothing _) ∙ ap (and_then (reply_at (goal.at.returns-in-Done c).Start)) none;
       out_after = c.interpolate_block.ensures.out_after;
     }

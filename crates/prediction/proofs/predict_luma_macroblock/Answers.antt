@@ -8,10 +8,10 @@ use Rattle.prediction.specs.Macroblock.{macroblock_reply}
 use Rattle.prediction.proofs.predict_luma_macroblock.Goals.{After-and_then-reply, In-Done, Start}
 use Rattle.prediction.proofs.predict_luma_macroblock.Goals as goal
 
-abbrev replyOf : Start → Reply
-replyOf s = let a = s.args in macroblock_reply a.mode a.geometry (length a.samples.now) a.motion a.corner a.rounding (length a.out.now)
+abbrev reply_of : Start → Reply
+reply_of s = let a = s.args in macroblock_reply a.mode a.geometry (length a.samples.now) a.motion a.corner a.rounding (length a.out.now)
 
-answered : (c : After-and_then-reply) → c.and_then-reply.result ≡ replyOf (goal.at.After-and_then-reply c).Start
+answered : (c : After-and_then-reply) → c.and_then-reply.result ≡ reply_of (goal.at.After-and_then-reply c).Start
 unfolding macroblock_reply
 answered c =
     joined c.and_then-reply.ensures c.mode_reply.ensures
@@ -19,7 +19,7 @@ answered c =
     (joined c.and_then-third.ensures c.motions_reply.ensures
     (joined c.and_then-last.ensures c.length_reply.ensures c.rounding_reply.ensures)))
 
-done : (c : In-Done) → replyOf (goal.at.In-Done c).Start ≡ Done
+done : (c : In-Done) → reply_of (goal.at.In-Done c).Start ≡ Done
 done c = sym (answered (goal.at.In-Done c).After-and_then-reply) ∙ c.in-Done.is
 
 pub predict_ready-requires : goal.predict_ready-requires

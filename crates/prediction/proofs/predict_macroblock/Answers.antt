@@ -8,15 +8,15 @@ use Rattle.prediction.specs.Prediction.{prediction_reply}
 use Rattle.prediction.proofs.predict_macroblock.Goals.{In-Done, Start}
 use Rattle.prediction.proofs.predict_macroblock.Goals as goal
 
-abbrev replyOf : Start → Reply
-replyOf s =
+abbrev reply_of : Start → Reply
+reply_of s =
     let a = s.args in
     prediction_reply a.mode a.geometry
     (lengths_in (samples a.reference_y.now a.reference_cb.now a.reference_cr.now))
     a.motion a.place a.rounding
     (lengths_in (samples a.y.now a.cb.now a.cr.now))
 
-done_is : (c : In-Done) → replyOf (goal.at.In-Done c).Start ≡ Done
+done_is : (c : In-Done) → reply_of (goal.at.In-Done c).Start ≡ Done
 done_is c = sym c.prediction_reply.ensures ∙ c.in-Done.is
 
 pub predict_planes-requires : goal.predict_planes-requires

@@ -24,8 +24,8 @@ ReadyFor s m = let a = s.args in MacroblockReady a.mode a.geometry (length a.sam
 ready : (s : Start) (m : PvopMbMotion) → s.args.motion ≡ m → ReadyFor s m
 ready s m e = subst (ReadyFor s) e (macroblock_ready _ _ _ _ _ _ _ s.requires)
 
-abbrev lumaFor : Start → PvopMbMotion → List ℕ
-lumaFor s m = let a = s.args in macroblock_luma a.mode (plane_of a.samples.now a.geometry) m a.corner a.rounding
+abbrev luma_for : Start → PvopMbMotion → List ℕ
+luma_for s m = let a = s.args in macroblock_luma a.mode (plane_of a.samples.now a.geometry) m a.corner a.rounding
 
 pub predict_four-requires : goal.predict_four-requires
 predict_four-requires c =
@@ -48,7 +48,7 @@ returns-in-OneMv c =
     ∙ ap (λ (x : Reply). done x (predicted_block a.mode (plane_of a.samples.now a.geometry) site a.rounding v) a.out.now)
     (c.interpolate_block.ensures.value
     ∙ luma_done a.mode a.geometry (length a.samples.now) v site (length a.out.now) r.mode r.reference r.motions r.fits refl refl)
-    ∙ ap (lumaFor (goal.at.returns-in-OneMv c).Start) (sym c.in-OneMv.is)
+    ∙ ap (luma_for (goal.at.returns-in-OneMv c).Start) (sym c.in-OneMv.is)
 
 pub returns-in-FourMv : goal.returns-in-FourMv
 unfolding predicted_block macroblock_luma
@@ -59,4 +59,4 @@ returns-in-FourMv c =
     c.weave.ensures
     ∙ ap (λ (l : List ℕ). raster 8 32 (λ i n. get_or l (part_at n + i) 0)) c.predict_four.ensures
     ∙ woven (eight_sample a.mode (plane_of a.samples.now a.geometry) vs a.corner a.rounding)
-    ∙ ap (lumaFor (goal.at.returns-in-FourMv c).Start) (sym m.is)
+    ∙ ap (luma_for (goal.at.returns-in-FourMv c).Start) (sym m.is)

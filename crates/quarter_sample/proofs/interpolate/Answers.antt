@@ -33,12 +33,12 @@ small s =
     let h : s.args.site.height + 1 ≤ 17 = omega (arith, (ready s).side_h.high) in
     product_le w h
 
-abbrev place-by-steps : Start → BlockStart
-place-by-steps s = start_of s.args.site.corner s.args.vector
+abbrev place_by_steps : Start → BlockStart
+place_by_steps s = start_of s.args.site.corner s.args.vector
 
 -- the block that is copied, from a point on
-abbrev blockFrom : Start → Point → List ℕ
-blockFrom s at = let a = s.args in copied_block (plane_of a.samples.now a.geometry) at (a.site.width + 1) (a.site.height + 1)
+abbrev block_from : Start → Point → List ℕ
+block_from s at = let a = s.args in copied_block (plane_of a.samples.now a.geometry) at (a.site.width + 1) (a.site.height + 1)
 
 -- how many samples are copied
 abbrev count : Start → ℕ
@@ -52,14 +52,14 @@ module _ (c : After-copy_block) where
   abbrev rest : List ℕ
   rest = drop (count (goal.at.After-copy_block c).Start) (replicate 289 0)
 
-  copy : buffer ≡ blockFrom (goal.at.After-copy_block c).Start (place-by-steps (goal.at.After-copy_block c).Start).at
+  copy : buffer ≡ block_from (goal.at.After-copy_block c).Start (place_by_steps (goal.at.After-copy_block c).Start).at
   copy =
       let a = c.args in
       c.copy_block.ensures.out_after
-      ∙ ap (λ (r : Reply). done r (blockFrom (goal.at.After-copy_block c).Start c.start_of-start.result.at) (take (count (goal.at.After-copy_block c).Start) (replicate 289 0)))
+      ∙ ap (λ (r : Reply). done r (block_from (goal.at.After-copy_block c).Start c.start_of-start.result.at) (take (count (goal.at.After-copy_block c).Start) (replicate 289 0)))
       (c.copy_block.ensures.value
       ∙ copy_done a.geometry (length a.samples.now) (a.site.width + 1) (a.site.height + 1) _ (ready (goal.at.After-copy_block c).Start).reference (length-take-le _ _ (small (goal.at.After-copy_block c).Start)))
-      ∙ ap (λ (t : BlockStart). blockFrom (goal.at.After-copy_block c).Start t.at) c.start_of-start.ensures
+      ∙ ap (λ (t : BlockStart). block_from (goal.at.After-copy_block c).Start t.at) c.start_of-start.ensures
 
 pub start_of-start-requires : goal.start_of-start-requires
 start_of-start-requires c = let r = ready (goal.at.start_of-start-requires c).Start in record {
@@ -106,7 +106,7 @@ returns c =
     let a = c.args in
     let f = ready (goal.at.returns c).Start in
     let rc = a.rounding % 2 in
-    let o = (place-by-steps (goal.at.returns c).Start).at in
+    let o = (place_by_steps (goal.at.returns c).Start).at in
     let x = split_quarter a.vector.x in
     let y = split_quarter a.vector.y in
     let fractions = ap (λ (t : BlockStart). t.fractions) c.start_of-start.ensures in

@@ -14,32 +14,32 @@ use Rattle.quarter_sample.proofs.interpolate_block_qpel_into.Goals.{After-and_th
 use Rattle.quarter_sample.proofs.interpolate_block_qpel_into.Goals as goal
 
 -- what 4, 5, 8, 12 and 14 say, and the whole list
-abbrev blockIn : Start → Reply
-blockIn s = let a = s.args in block_reply a.geometry (length a.samples.now) a.vector a.site (length a.out.now)
+abbrev block_in : Start → Reply
+block_in s = let a = s.args in block_reply a.geometry (length a.samples.now) a.vector a.site (length a.out.now)
 
-abbrev replyIn : Start → Reply
-replyIn s = let a = s.args in quarter_reply a.bits_per_pixel a.geometry (length a.samples.now) a.vector a.site (length a.out.now)
+abbrev reply_in : Start → Reply
+reply_in s = let a = s.args in quarter_reply a.bits_per_pixel a.geometry (length a.samples.now) a.vector a.site (length a.out.now)
 
 abbrev start : After-and_then-reply → Start
 start c = (goal.at.After-and_then-reply c).Start
 
-answered : (c : After-and_then-reply) → c.and_then-reply.result ≡ replyIn (goal.at.After-and_then-reply c).Start
+answered : (c : After-and_then-reply) → c.and_then-reply.result ≡ reply_in (goal.at.After-and_then-reply c).Start
 unfolding quarter_reply
 answered c = joined c.and_then-reply.ensures c.bits_reply.ensures c.block_reply-block.ensures
 
 -- what holds where nothing is refused
-passed : (c : In-Done) → replyIn (goal.at.In-Done c).Start ≡ Done
+passed : (c : In-Done) → reply_in (goal.at.In-Done c).Start ≡ Done
 passed c = sym (answered (goal.at.In-Done c).After-and_then-reply) ∙ c.in-Done.is
 
 pub interpolate-requires : goal.interpolate-requires
 unfolding quarter_reply
 interpolate-requires c =
     let bpp = c.args.bits_per_pixel in
-    let bits = unless-done (between 1 8 bpp) BitsPerPixel Done (first_done (bits_reply bpp) (blockIn (goal.at.interpolate-requires c).Start) (passed (goal.at.interpolate-requires c).In-Done)) in
+    let bits = unless-done (between 1 8 bpp) BitsPerPixel Done (first_done (bits_reply bpp) (block_in (goal.at.interpolate-requires c).Start) (passed (goal.at.interpolate-requires c).In-Done)) in
     record {
       some_bits = between-low 1 8 bpp bits;
       few_bits = between-high 1 8 bpp bits;
-      ready = then_done (bits_reply bpp) (blockIn (goal.at.interpolate-requires c).Start) (passed (goal.at.interpolate-requires c).In-Done);
+      ready = then_done (bits_reply bpp) (block_in (goal.at.interpolate-requires c).Start) (passed (goal.at.interpolate-requires c).In-Done);
     }
 
 pub returns-in-Refused : goal.returns-in-Refused

@@ -49,11 +49,11 @@ sum_y c =
     (of_bits_lem c.split_quarter_pel-down.result.whole c.struct_told-6-1.given.0.1 ∙ ap (λ (q : QuarterPel). q.whole) (down (goal.at.After-struct_told-6-1 c).After-split_quarter_pel-down))
 
 -- and they fit
-fits-x : (s : Start) → SFits w32 (s.args.corner.x +ℤ (split_quarter s.args.vector.x).whole)
-fits-x s = moved_fits s.args.corner.x s.args.vector.x 4 s.requires.x_value.0 s.requires.x_value_2.0
+fits_x : (s : Start) → SFits w32 (s.args.corner.x +ℤ (split_quarter s.args.vector.x).whole)
+fits_x s = moved_fits s.args.corner.x s.args.vector.x 4 s.requires.x_value.0 s.requires.x_value_2.0
 
-fits-y : (s : Start) → SFits w32 (s.args.corner.y +ℤ (split_quarter s.args.vector.y).whole)
-fits-y s = moved_fits s.args.corner.y s.args.vector.y 4 s.requires.x_value.1 s.requires.x_value_2.1
+fits_y : (s : Start) → SFits w32 (s.args.corner.y +ℤ (split_quarter s.args.vector.y).whole)
+fits_y s = moved_fits s.args.corner.y s.args.vector.y 4 s.requires.x_value.1 s.requires.x_value_2.1
 
 -- the quarters, which are below 4
 quarters_x : (c : After-split_quarter_pel-across) → c.split_quarter_pel-across.result.fraction ≡ (split_quarter c.args.vector.x).fraction
@@ -63,10 +63,10 @@ quarters_y : (c : After-split_quarter_pel-down) → c.split_quarter_pel-down.res
 quarters_y c = ap (λ (q : QuarterPel). q.fraction) (down c)
 
 pub overflow_add-at : goal.overflow_add-at
-overflow_add-at c = subst (SFits w32) (sym (sum_x (goal.at.overflow_add-at c).After-struct_told-4-1)) (fits-x (goal.at.overflow_add-at c).Start)
+overflow_add-at c = subst (SFits w32) (sym (sum_x (goal.at.overflow_add-at c).After-struct_told-4-1)) (fits_x (goal.at.overflow_add-at c).Start)
 
 pub overflow_add-at-2 : goal.overflow_add-at-2
-overflow_add-at-2 c = subst (SFits w32) (sym (sum_y (goal.at.overflow_add-at-2 c).After-struct_told-6-1)) (fits-y (s (goal.at.overflow_add-at-2 c).After-struct_told-4-1))
+overflow_add-at-2 c = subst (SFits w32) (sym (sum_y (goal.at.overflow_add-at-2 c).After-struct_told-6-1)) (fits_y (s (goal.at.overflow_add-at-2 c).After-struct_told-4-1))
 
 pub overflow_mul-result : goal.overflow_mul-result
 overflow_mul-result c =
@@ -82,8 +82,8 @@ pub returns : goal.returns
 returns c =
     λ i. record {
       at = record {
-        x = (ap (λ (z : ℤ). to_z w32 (of_z w32 z)) (sum_x (goal.at.returns c).After-struct_told-4-1) ∙ to_z-of_z w32 _ (fits-x (goal.at.returns c).Start)) i;
-        y = (ap (λ (z : ℤ). to_z w32 (of_z w32 z)) (sum_y (goal.at.returns c).After-struct_told-6-1) ∙ to_z-of_z w32 _ (fits-y (goal.at.returns c).Start)) i;
+        x = (ap (λ (z : ℤ). to_z w32 (of_z w32 z)) (sum_x (goal.at.returns c).After-struct_told-4-1) ∙ to_z-of_z w32 _ (fits_x (goal.at.returns c).Start)) i;
+        y = (ap (λ (z : ℤ). to_z w32 (of_z w32 z)) (sum_y (goal.at.returns c).After-struct_told-6-1) ∙ to_z-of_z w32 _ (fits_y (goal.at.returns c).Start)) i;
       };
       fractions = ap₂ (λ (m n : ℕ). m + 4 * n) (quarters_x (goal.at.returns c).After-split_quarter_pel-across) (quarters_y (goal.at.returns c).After-split_quarter_pel-down) i;
     }

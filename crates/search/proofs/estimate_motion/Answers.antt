@@ -18,23 +18,23 @@ use Rattle.search.proofs.estimate_motion.Goals.{After-one_vector-best, After-sea
 use Rattle.search.proofs.estimate_motion.Goals as goal
 
 module _ (s : Start) where
-  abbrev requestOf : SearchRequest
-  requestOf =
+  abbrev request_of : SearchRequest
+  request_of =
       let a = s.args in
       search_request a.source.now a.size a.place a.reference.now a.geometry a.mode a.bpp a.fcode
 
   abbrev vector_by : SearchSettings → Scored
-  vector_by t = one_vector t (sought requestOf)
+  vector_by t = one_vector t (sought request_of)
 
 -- no vector
 abbrev refused : Refusal → MotionVector → Estimated
 refused why v = record { reply = Refused why; vector = v; sum = 0 }
 
-done : (c : In-Done) → search_reply (requestOf (goal.at.In-Done c).Start) ≡ Done
+done : (c : In-Done) → search_reply (request_of (goal.at.In-Done c).Start) ≡ Done
 done c = sym c.search_reply-reply.ensures ∙ c.in-Done.is
 
 found : (c : After-one_vector-best)
-    → let q = requestOf (goal.at.After-one_vector-best c).Start in c.one_vector-best.result ≡ one_vector (settings_in 0 q) (sought q)
+    → let q = request_of (goal.at.After-one_vector-best c).Start in c.one_vector-best.result ≡ one_vector (settings_in 0 q) (sought q)
 found c =
     c.one_vector-best.ensures ∙ ap (vector_by (goal.at.After-one_vector-best c).Start) c.settings_of-settings.ensures
 
@@ -42,19 +42,19 @@ pub one_vector-best-requires : goal.one_vector-best-requires
 one_vector-best-requires c =
     let a = c.args in
     subst (Judged a.source.now a.size a.place a.reference.now a.geometry) (sym c.settings_of-settings.ensures)
-    (search_done (requestOf (goal.at.one_vector-best-requires c).Start) 0 (done (goal.at.one_vector-best-requires c).In-Done))
+    (search_done (request_of (goal.at.one_vector-best-requires c).Start) 0 (done (goal.at.one_vector-best-requires c).In-Done))
 
 pub returns-in-Refused : goal.returns-in-Refused
 returns-in-Refused c =
     let e = sym c.in-Refused.is ∙ c.search_reply-reply.ensures in
     record {
-      result_value = ap (refused c.in-Refused.why) c.zero_vector.ensures ∙ one_by (requestOf (goal.at.returns-in-Refused c).Start) e;
+      result_value = ap (refused c.in-Refused.why) c.zero_vector.ensures ∙ one_by (request_of (goal.at.returns-in-Refused c).Start) e;
       one_vector = λ e. not_done _ e;
     }
 
 pub returns-in-Done : goal.returns-in-Done
 returns-in-Done c =
-    let q = requestOf (goal.at.returns-in-Done c).Start in record {
+    let q = request_of (goal.at.returns-in-Done c).Start in record {
       result_value = ap (estimated Done) (found (goal.at.returns-in-Done c).After-one_vector-best) ∙ one_by q (sym (done (goal.at.returns-in-Done c).In-Done));
       one_vector = λ _.
           subst (λ (v : Scored). OneVector (settings_in 0 q) (sought q) v.vector v.cost) (sym (found (goal.at.returns-in-Done c).After-one_vector-best))

@@ -20,13 +20,13 @@ use Rattle.search.proofs.estimate_motion_4mv.Goals.{After-four_reply-reply, Afte
 use Rattle.search.proofs.estimate_motion_4mv.Goals as goal
 
 module _ (s : Start) where
-  abbrev requestOf : SearchRequest
-  requestOf =
+  abbrev request_of : SearchRequest
+  request_of =
       let a = s.args in
       search_request a.source.now a.size a.place a.reference.now a.geometry a.mode a.bpp a.fcode
 
   abbrev vectors_by : SearchSettings → EstimatedFour
-  vectors_by t = four_vectors_of t s.args.seed (sought requestOf)
+  vectors_by t = four_vectors_of t s.args.seed (sought request_of)
 
   -- what the search by some settings is told
   abbrev Told : SearchSettings → Type 0
@@ -38,11 +38,11 @@ module _ (s : Start) where
 abbrev refused : Refusal → MotionVector → EstimatedFour
 refused why z = record { reply = Refused why; vectors = replicate 4 z; sums = replicate 4 0 }
 
-done : (c : In-Done) → four_reply (requestOf (goal.at.In-Done c).Start) c.args.seed ≡ Done
+done : (c : In-Done) → four_reply (request_of (goal.at.In-Done c).Start) c.args.seed ≡ Done
 done c = sym c.four_reply-reply.ensures ∙ c.in-Done.is
 
 found : (c : After-four_vectors)
-    → let q = requestOf (goal.at.After-four_vectors c).Start in c.four_vectors.result ≡ four_vectors_of (settings_in 0 q) c.args.seed (sought q)
+    → let q = request_of (goal.at.After-four_vectors c).Start in c.four_vectors.result ≡ four_vectors_of (settings_in 0 q) c.args.seed (sought q)
 found c =
     c.four_vectors.ensures ∙ ap (vectors_by (goal.at.After-four_vectors c).Start) c.settings_of-settings.ensures
 
@@ -50,19 +50,19 @@ pub four_vectors-requires : goal.four_vectors-requires
 four_vectors-requires c =
     let seed = c.args.seed in
     let e = done (goal.at.four_vectors-requires c).In-Done in
-    subst (Told (goal.at.four_vectors-requires c).Start) (sym c.settings_of-settings.ensures) (four_done (requestOf (goal.at.four_vectors-requires c).Start) seed e 0, seed_done (requestOf (goal.at.four_vectors-requires c).Start) seed e)
+    subst (Told (goal.at.four_vectors-requires c).Start) (sym c.settings_of-settings.ensures) (four_done (request_of (goal.at.four_vectors-requires c).Start) seed e 0, seed_done (request_of (goal.at.four_vectors-requires c).Start) seed e)
 
 pub returns-in-Refused : goal.returns-in-Refused
 returns-in-Refused c =
     let e = sym c.in-Refused.is ∙ c.four_reply-reply.ensures in
     record {
-      result_value = ap (refused c.in-Refused.why) c.zero_vector-zero.ensures ∙ four_by (requestOf (goal.at.returns-in-Refused c).Start) c.args.seed e;
+      result_value = ap (refused c.in-Refused.why) c.zero_vector-zero.ensures ∙ four_by (request_of (goal.at.returns-in-Refused c).Start) c.args.seed e;
       four_vectors = λ e. not_done _ e;
     }
 
 pub returns-in-Done : goal.returns-in-Done
 returns-in-Done c =
-    let q = requestOf (goal.at.returns-in-Done c).Start in
+    let q = request_of (goal.at.returns-in-Done c).Start in
     let v = c.args.seed in record {
       result_value = found (goal.at.returns-in-Done c).After-four_vectors ∙ four_by q v (sym (done (goal.at.returns-in-Done c).In-Done));
       four_vectors = λ _.

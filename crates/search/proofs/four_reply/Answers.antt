@@ -8,22 +8,22 @@ use Rattle.search.proofs.Judge.{search_set}
 use Rattle.search.proofs.four_reply.Goals.{After-search_reply, In-Done, Start}
 use Rattle.search.proofs.four_reply.Goals as goal
 
-abbrev requestOf : Start → SearchRequest
-requestOf s =
+abbrev request_of : Start → SearchRequest
+request_of s =
     let a = s.args in
     search_request a.source.now a.size a.place a.reference.now a.geometry a.mode a.bpp a.fcode
 
 -- the seed decides where nothing before it is refused
-joined : (s : Start) (r : Reply) → r ≡ search_reply (requestOf s)
-    → and_then r (seed_reply s.args.fcode s.args.seed) ≡ four_reply (requestOf s) s.args.seed
+joined : (s : Start) (r : Reply) → r ≡ search_reply (request_of s)
+    → and_then r (seed_reply s.args.fcode s.args.seed) ≡ four_reply (request_of s) s.args.seed
 unfolding four_reply
 joined s r e = ap (λ (x : Reply). and_then x (seed_reply s.args.fcode s.args.seed)) e
 
-done : (c : In-Done) → search_reply (requestOf (goal.at.In-Done c).Start) ≡ Done
+done : (c : In-Done) → search_reply (request_of (goal.at.In-Done c).Start) ≡ Done
 done c = sym c.search_reply.ensures ∙ c.in-Done.is
 
 pub seed_reply-requires : goal.seed_reply-requires
-seed_reply-requires c = (search_set (requestOf (goal.at.seed_reply-requires c).Start) 0 (done (goal.at.seed_reply-requires c).In-Done)).fcode_usable
+seed_reply-requires c = (search_set (request_of (goal.at.seed_reply-requires c).Start) 0 (done (goal.at.seed_reply-requires c).In-Done)).fcode_usable
 
 pub returns-in-Refused : goal.returns-in-Refused
 returns-in-Refused c =

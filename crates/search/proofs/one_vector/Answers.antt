@@ -40,11 +40,11 @@ module _ (s : Start) where
   abbrev block_at : Block
   block_at = block_of samples_in s.args.reference.now target_in
 
-  abbrev costOf : MotionVector → ℕ
-  costOf = discounted zero_discount (copied_sum block_at)
+  abbrev cost_of : MotionVector → ℕ
+  cost_of = discounted zero_discount (copied_sum block_at)
 
   abbrev winner : MotionVector
-  winner = full_winner costOf s.args.settings.fcode (window s.args.settings) block_at
+  winner = full_winner cost_of s.args.settings.fcode (window s.args.settings) block_at
 
   ready : (l : List ℕ) → l ≡ samples_in → Ready l s.args.reference.now target_in
   ready = luma_searched _ _ _ _ _ _ s.requires
@@ -54,7 +54,7 @@ module _ (s : Start) where
 
   winner_small : Within 4096 winner
   winner_small =
-      wider (omega arith) (winner_within costOf s.args.settings.fcode (window s.args.settings) block_at window_small)
+      wider (omega arith) (winner_within cost_of s.args.settings.fcode (window s.args.settings) block_at window_small)
 
 abbrev start_at : After-luma_block → Start
 start_at c = (goal.at.After-luma_block c).Start

@@ -10,15 +10,15 @@ use Rattle.areas.proofs.runs.write_totals.Goals.{Start}
 use Rattle.areas.proofs.runs.write_totals.Goals as goal
 
 -- what the area holds, by the reply
-abbrev totalsBy : Start → Reply → List ℕ
-totalsBy s r = done r (totals_numbers s.args.told.totals) s.args.totals.now
+abbrev totals_by : Start → Reply → List ℕ
+totals_by s r = done r (totals_numbers s.args.told.totals) s.args.totals.now
 
 pub returns-in-Refused : goal.returns-in-Refused
 returns-in-Refused c =
     let e = sym c.in-Refused.is in
     record {
       value = c.number.ensures ∙ ap code_of e;
-      totals_after = ap (totalsBy (goal.at.returns-in-Refused c).Start) e;
+      totals_after = ap (totals_by (goal.at.returns-in-Refused c).Start) e;
     }
 
 pub returns-in-Done : goal.returns-in-Done
@@ -26,5 +26,5 @@ returns-in-Done c =
     let e = sym c.in-Done.is in
     record {
       value = ap code_of e;
-      totals_after = ap (totalsBy (goal.at.returns-in-Done c).Start) e;
+      totals_after = ap (totals_by (goal.at.returns-in-Done c).Start) e;
     }

@@ -16,8 +16,8 @@ use Rattle.areas.proofs.vectors.write_one.Goals.{After-and_then-reply, In-Done, 
 use Rattle.areas.proofs.vectors.write_one.Goals as goal
 
 module _ (s : Start) where
-  abbrev replyOf : Reply
-  replyOf = one_areas_reply s.args.found.reply (length s.args.vector.now) (length s.args.sum.now)
+  abbrev reply_of : Reply
+  reply_of = one_areas_reply s.args.found.reply (length s.args.vector.now) (length s.args.sum.now)
 
   -- what the two areas hold, by the reply
   abbrev vector_by : Reply → List ℤ
@@ -29,10 +29,10 @@ module _ (s : Start) where
 abbrev start_at : After-and_then-reply → Start
 start_at c = (goal.at.After-and_then-reply c).Start
 
-reply_is : (c : After-and_then-reply) → c.and_then-reply.result ≡ replyOf (goal.at.After-and_then-reply c).Start
+reply_is : (c : After-and_then-reply) → c.and_then-reply.result ≡ reply_of (goal.at.After-and_then-reply c).Start
 reply_is c = areas_reply c.args.found.reply _ _ _ _ c.and_then-reply.ensures c.unless-areas.ensures c.both-lengths.ensures
 
-told : (c : In-Done) → Done ≡ replyOf (goal.at.In-Done c).Start
+told : (c : In-Done) → Done ≡ reply_of (goal.at.In-Done c).Start
 told c = sym c.in-Done.is ∙ reply_is (goal.at.In-Done c).After-and_then-reply
 
 long : (c : In-Done) → let a = c.args in (length a.vector.now ≡ 2) × (length a.sum.now ≡ 1)

@@ -16,8 +16,8 @@ use Rattle.coding.proofs.BlockCoding.{transform_done, quantise_done, scan_done, 
 use Rattle.coding.proofs.events.quantise_inter_block.Goals.{After-forward_dct_8x8, After-forward_scan, After-quantise_block, Start}
 use Rattle.coding.proofs.events.quantise_inter_block.Goals as goal
 
-abbrev quantisingAt : Start → Quantising
-quantisingAt s = quantising_of s.args.quantiser s.args.first_method s.args.weights.now s.args.scan
+abbrev quantising_at : Start → Quantising
+quantising_at s = quantising_of s.args.quantiser s.args.first_method s.args.weights.now s.args.scan
 
 abbrev block_at : Start → List ℤ
 block_at s = s.args.residual.now
@@ -31,10 +31,10 @@ transformed_is c =
     let e = c.forward_dct_8x8.ensures in
     left _ _ _ _ _ e.value (transform_done (block_at (goal.at.After-forward_dct_8x8 c).Start) c.requires.long c.requires.small) e.out_after
 
-quantised_is : (c : After-quantise_block) → c.quantise_block.new.out ≡ quantised (quantisingAt (goal.at.After-quantise_block c).Start) (block_at (goal.at.After-quantise_block c).Start)
+quantised_is : (c : After-quantise_block) → c.quantise_block.new.out ≡ quantised (quantising_at (goal.at.After-quantise_block c).Start) (block_at (goal.at.After-quantise_block c).Start)
 unfolding quantised
 quantised_is c =
-    let h = quantisingAt (goal.at.After-quantise_block c).Start in
+    let h = quantising_at (goal.at.After-quantise_block c).Start in
     let e = c.quantise_block.ensures in
     left _ _ _ _ _ e.value
     (ap (λ (l : List ℤ). quantise_reply l h.quantiser h.first h.weights 64) (transformed_is (goal.at.After-quantise_block c).After-forward_dct_8x8)
@@ -42,16 +42,16 @@ quantised_is c =
     e.out_after
     ∙ ap (block_levels h.first h.quantiser h.weights) (transformed_is (goal.at.After-quantise_block c).After-forward_dct_8x8)
 
-scanned_is : (c : After-forward_scan) → c.forward_scan.new.out ≡ in_scan (quantisingAt (goal.at.After-forward_scan c).Start) (block_at (goal.at.After-forward_scan c).Start)
+scanned_is : (c : After-forward_scan) → c.forward_scan.new.out ≡ in_scan (quantising_at (goal.at.After-forward_scan c).Start) (block_at (goal.at.After-forward_scan c).Start)
 scanned_is c =
-    let h = quantisingAt (goal.at.After-forward_scan c).Start in
+    let h = quantising_at (goal.at.After-forward_scan c).Start in
     let e = c.forward_scan.ensures in
     left _ _ _ _ _ e.value (ap (λ (l : List ℤ). scan_reply l h.scan 64) (quantised_is (goal.at.After-forward_scan c).After-quantise_block) ∙ scan_done h c.requires.quantisable (block_at (goal.at.After-forward_scan c).Start)) e.out_after
     ∙ ap (scanned (grid_of h.scan)) (quantised_is (goal.at.After-forward_scan c).After-quantise_block)
 
 pub returns : goal.returns
 returns c =
-    let h = quantisingAt (goal.at.returns c).Start in
+    let h = quantising_at (goal.at.returns c).Start in
     let l = c.forward_scan.new.out in
     let is = scanned_is (goal.at.returns c).After-forward_scan in
     let e = c.levels_to_events-events.ensures in

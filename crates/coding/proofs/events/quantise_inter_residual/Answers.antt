@@ -7,12 +7,12 @@ use Rattle.coding.proofs.Filling.{coded_none, coded_more, coded_end, part_in_ran
 use Rattle.coding.proofs.events.quantise_inter_residual.Goals.{Start}
 use Rattle.coding.proofs.events.quantise_inter_residual.Goals as goal
 
-abbrev quantisingAt : Start → Quantising
-quantisingAt s = quantising_of s.args.quantiser s.args.first_method s.args.weights.now s.args.scan
+abbrev quantising_at : Start → Quantising
+quantising_at s = quantising_of s.args.quantiser s.args.first_method s.args.weights.now s.args.scan
 
 pub loop-b-init : goal.loop-b-init
 loop-b-init c =
-    coded_none (quantisingAt (goal.at.loop-b-init c).Start) c.args.residual.now _ _ _ _ c.requires.lasts_long c.requires.runs_long c.requires.levels_long refl
+    coded_none (quantising_at (goal.at.loop-b-init c).Start) c.args.residual.now _ _ _ _ c.requires.lasts_long c.requires.runs_long c.requires.levels_long refl
 
 pub quantise_inter_block-requires : goal.quantise_inter_block-requires
 quantise_inter_block-requires c =
@@ -28,7 +28,7 @@ quantise_inter_block-requires c =
 
 pub loop-b-preserved : goal.loop-b-preserved
 loop-b-preserved c =
-    coded_more (quantisingAt (goal.at.loop-b-preserved c).Start) c.args.residual.now _ _ _ _
+    coded_more (quantising_at (goal.at.loop-b-preserved c).Start) c.args.residual.now _ _ _ _
     c.loop-b.lasts c.loop-b.runs c.loop-b.levels c.loop-b.counts c.loop-b.b c.loop-b.invariant _ _ _ _ (omega arith)
     c.quantise_inter_block.ensures.0 c.quantise_inter_block.ensures.1
 
@@ -43,5 +43,5 @@ shape_of-levels c = let i = c.loop-b.invariant in i.in_levels.long ∙ sym i.in_
 
 pub returns : goal.returns
 returns c =
-    coded_end (quantisingAt (goal.at.returns c).Start) c.args.residual.now _ _ _ _
+    coded_end (quantising_at (goal.at.returns c).Start) c.args.residual.now _ _ _ _
     c.loop-b.lasts c.loop-b.runs c.loop-b.levels c.loop-b.counts c.loop-b.b c.loop-b.invariant (omega arith)

@@ -6,17 +6,17 @@ use Rattle.coding.proofs.SixBlocks.{luma_block, blue_block, red_block}
 use Rattle.coding.proofs.residual.block_residual.Goals.{Start}
 use Rattle.coding.proofs.residual.block_residual.Goals as goal
 
-abbrev sourceIn : Start → Samples
-sourceIn s = samples s.args.y.now s.args.cb.now s.args.cr.now
+abbrev source_in : Start → Samples
+source_in s = samples s.args.y.now s.args.cb.now s.args.cr.now
 
-abbrev lentIn : Start → Samples
-lentIn s = samples s.args.pred_y.now s.args.pred_cb.now s.args.pred_cr.now
+abbrev lent_in : Start → Samples
+lent_in s = samples s.args.pred_y.now s.args.pred_cb.now s.args.pred_cr.now
 
 pub returns-then-b-lt4 : goal.returns-then-b-lt4
 returns-then-b-lt4 c =
     let e = c.luma_residual.ensures in
     record {
-      out_after = e.out_after ∙ luma_block (sourceIn (goal.at.returns-then-b-lt4 c).Start) (lentIn (goal.at.returns-then-b-lt4 c).Start) c.args.b (lt-ltb _ _ c.if-b-lt4.true);
+      out_after = e.out_after ∙ luma_block (source_in (goal.at.returns-then-b-lt4 c).Start) (lent_in (goal.at.returns-then-b-lt4 c).Start) c.args.b (lt-ltb _ _ c.if-b-lt4.true);
       residual_range = e.residual_range;
     }
 
@@ -24,7 +24,7 @@ pub returns-then-b-eq4 : goal.returns-then-b-eq4
 returns-then-b-eq4 c =
     let e = c.chroma_residual.ensures in
     record {
-      out_after = e.out_after ∙ blue_block (sourceIn (goal.at.returns-then-b-eq4 c).Start) (lentIn (goal.at.returns-then-b-eq4 c).Start) c.args.b (le-ltb _ _ c.if-b-lt4.false) (eq-eqb _ _ c.if-b-eq4.true);
+      out_after = e.out_after ∙ blue_block (source_in (goal.at.returns-then-b-eq4 c).Start) (lent_in (goal.at.returns-then-b-eq4 c).Start) c.args.b (le-ltb _ _ c.if-b-lt4.false) (eq-eqb _ _ c.if-b-eq4.true);
       residual_range = e.residual_range;
     }
 
@@ -32,6 +32,6 @@ pub returns : goal.returns
 returns c =
     let e = c.chroma_residual-2.ensures in
     record {
-      out_after = e.out_after ∙ red_block (sourceIn (goal.at.returns c).Start) (lentIn (goal.at.returns c).Start) c.args.b (le-ltb _ _ c.if-b-lt4.false) (ne_eqb _ _ c.if-b-eq4.false);
+      out_after = e.out_after ∙ red_block (source_in (goal.at.returns c).Start) (lent_in (goal.at.returns c).Start) c.args.b (le-ltb _ _ c.if-b-lt4.false) (ne_eqb _ _ c.if-b-eq4.false);
       residual_range = e.residual_range;
     }

@@ -15,21 +15,21 @@ use Rattle.coding.proofs.residual.six_residuals.Goals.{Start}
 use Rattle.coding.proofs.residual.six_residuals.Goals as goal
 
 -- the two macroblocks' samples, and block b of their residual
-abbrev sourceIn : Start → Samples
-sourceIn s = samples s.args.y.now s.args.cb.now s.args.cr.now
+abbrev source_in : Start → Samples
+source_in s = samples s.args.y.now s.args.cb.now s.args.cr.now
 
-abbrev lentIn : Start → Samples
-lentIn s = samples s.args.pred_y.now s.args.pred_cb.now s.args.pred_cr.now
+abbrev lent_in : Start → Samples
+lent_in s = samples s.args.pred_y.now s.args.pred_cb.now s.args.pred_cr.now
 
 abbrev row_of : Start → ℕ → List ℤ
-row_of s = residual_at (sourceIn s) (lentIn s)
+row_of s = residual_at (source_in s) (lent_in s)
 
-row-length : (s : Start) (b : ℕ) → length (row_of s b) ≡ 64
-row-length s b = block_length (samples_of (sourceIn s) b) (samples_of (lentIn s) b)
+row_length : (s : Start) (b : ℕ) → length (row_of s b) ≡ 64
+row_length s b = block_length (samples_of (source_in s) b) (samples_of (lent_in s) b)
 
 pub loop-b-init : goal.loop-b-init
 loop-b-init c =
-    (omega arith, c.requires.2, c.requires.2, sym (laid_none 64 (row_of (goal.at.loop-b-init c).Start) (row-length (goal.at.loop-b-init c).Start) c.args.out.now), λ k h. absurd (none k h))
+    (omega arith, c.requires.2, c.requires.2, sym (laid_none 64 (row_of (goal.at.loop-b-init c).Start) (row_length (goal.at.loop-b-init c).Start) c.args.out.now), λ k h. absurd (none k h))
   where
     none : (k : ℕ) → k < 0 → ⊥
     none k h = omega arith
@@ -45,7 +45,7 @@ loop-b-preserved c =
       omega arith,
       c.loop-b.invariant.1,
       omega arith,
-      laid_put 64 r (row-length (goal.at.loop-b-preserved c).Start) c.loop-b.b c.args.out.now c.loop-b.out _ c.loop-b.invariant.3 e.out_after,
+      laid_put 64 r (row_length (goal.at.loop-b-preserved c).Start) c.loop-b.b c.args.out.now c.loop-b.out _ c.loop-b.invariant.3 e.out_after,
       below_more _ _ c.loop-b.invariant.4 (subst (ResidualRange 64) e.out_after e.residual_range),
     )
 
@@ -55,8 +55,8 @@ returns c =
     let r = row_of (goal.at.returns c).Start in
     let six : c.loop-b.b ≡ 6 = omega arith in
     let e : c.loop-b.out ≡ rows 6 r =
-    laid_end 64 r (row-length (goal.at.returns c).Start) 6 c.loop-b.b c.args.out.now c.loop-b.out c.loop-b.invariant.3 six c.loop-b.invariant.1 in
+    laid_end 64 r (row_length (goal.at.returns c).Start) 6 c.loop-b.b c.args.out.now c.loop-b.out c.loop-b.invariant.3 six c.loop-b.invariant.1 in
     record {
       out_after = e;
-      residual_range = subst (ResidualRange 384) (sym e) (six_in_range r (row-length (goal.at.returns c).Start) (λ b h. c.loop-b.invariant.4 b (omega arith)));
+      residual_range = subst (ResidualRange 384) (sym e) (six_in_range r (row_length (goal.at.returns c).Start) (λ b h. c.loop-b.invariant.4 b (omega arith)));
     }

@@ -8,7 +8,7 @@ use Rattle.plane.specs.declared.Point.{Point}
 use Rattle.plane.specs.Plane.{Plane, plane_of, copied_block}
 use Rattle.full_search.specs.declared.Lines.{Lines}
 use Rattle.full_search.specs.declared.Row.{Row}
-use Rattle.full_search.specs.Block.{blockIn}
+use Rattle.full_search.specs.Block.{block_in}
 use Rattle.full_search.specs.Costs.{zero_discount}
 use Rattle.full_search.specs.Told.{moved_to}
 use Rattle.full_search.specs.ToldKept.{kept_of, copied_cost, NoMoreThanZero, rows_below}
@@ -29,19 +29,19 @@ copied c = (goal.at.In-loop-i c).After-copy_block
 abbrev width_of : Start → ℕ
 width_of s = 16 + s.args.first.step * s.args.first.count
 
-abbrev planeIn : Start → Plane
-planeIn s = plane_of s.args.reference.now s.args.target.geometry
+abbrev plane_in : Start → Plane
+plane_in s = plane_of s.args.reference.now s.args.target.geometry
 
-abbrev firstPlace : Start → Point
-firstPlace s = moved_to s.args.target.corner s.args.first.from
+abbrev first_place : Start → Point
+first_place s = moved_to s.args.target.corner s.args.first.from
 
 -- what the band holds
 held : (c : After-copy_block)
-    → c.copy_block.new.out ≡ copied_block (planeIn (goal.at.After-copy_block c).Start) (firstPlace (goal.at.After-copy_block c).Start) (width_of (goal.at.After-copy_block c).Start) 28
+    → c.copy_block.new.out ≡ copied_block (plane_in (goal.at.After-copy_block c).Start) (first_place (goal.at.After-copy_block c).Start) (width_of (goal.at.After-copy_block c).Start) 28
 held c =
     let a = c.args in
     let p = c.requires in
-    copy_is a.reference.now a.target.geometry c.moved_to-at.result (firstPlace (goal.at.After-copy_block c).Start) (width_of (goal.at.After-copy_block c).Start) 28
+    copy_is a.reference.now a.target.geometry c.moved_to-at.result (first_place (goal.at.After-copy_block c).Start) (width_of (goal.at.After-copy_block c).Start) 28
     c.copy_block.result a.band.now _ p.ready.reference p.band_fits c.moved_to-at.ensures
     c.copy_block.ensures.value c.copy_block.ensures.out_after
 
@@ -98,7 +98,7 @@ sixteen_row-b-requires c =
     let s = start (goal.at.sixteen_row-b-requires c).After-copy_block in
     let a = s.args in
     let i = c.loop-i.i in
-    let long = copy_length (planeIn s) (firstPlace s) (width_of s) 28 _ (held (goal.at.sixteen_row-b-requires c).After-copy_block) in
+    let long = copy_length (plane_in s) (first_place s) (width_of s) 28 _ (held (goal.at.sixteen_row-b-requires c).After-copy_block) in
     let band = c.copy_block.new.out in
     let lines : Lines = record { first = 4 * i * width_of s; stride = width_of s } in
     subst (λ (r : Row). RowReady 16 a.source.now band lines r) (sym c.row_below-row.ensures)
@@ -134,9 +134,9 @@ returns c =
     let a = c.args in
     let corner = a.target.corner in
     let source = a.source.now in
-    let small = subst (λ (n : ℕ). NoMoreThanZero (copied_cost zero_discount (blockIn n source (planeIn (goal.at.returns c).Start) corner)) a.best) c.requires.sixteen c.requires.best_small in
+    let small = subst (λ (n : ℕ). NoMoreThanZero (copied_cost zero_discount (block_in n source (plane_in (goal.at.returns c).Start) corner)) a.best) c.requires.sixteen c.requires.best_small in
     let all =
     rows_all 16 source _ a.first.from (width_of (goal.at.returns c).Start) 28 zero_discount (line_of a.first) a.best a.n l.i l.b
-    (omega (arith, c.loop-i-test.false, l.invariant.0)) l.invariant.1 (planeIn (goal.at.returns c).Start) corner (held (goal.at.returns c).After-copy_block) small in
-    subst (λ (n : ℕ). l.b ≡ kept_of (copied_cost zero_discount (blockIn n source (planeIn (goal.at.returns c).Start) corner)) a.best (rows_below a.first a.n))
+    (omega (arith, c.loop-i-test.false, l.invariant.0)) l.invariant.1 (plane_in (goal.at.returns c).Start) corner (held (goal.at.returns c).After-copy_block) small in
+    subst (λ (n : ℕ). l.b ≡ kept_of (copied_cost zero_discount (block_in n source (plane_in (goal.at.returns c).Start) corner)) a.best (rows_below a.first a.n))
     (sym c.requires.sixteen) all

@@ -18,8 +18,8 @@ use Rattle.full_search.proofs.Near.{rows_within}
 use Rattle.full_search.proofs.full.dense_search.Goals.{In-loop-j, Start}
 use Rattle.full_search.proofs.full.dense_search.Goals as goal
 
-abbrev costOf : Start → MotionVector → ℕ
-costOf s = let a = s.args in target_cost zero_discount a.source.now a.reference.now a.target
+abbrev cost_of : Start → MotionVector → ℕ
+cost_of s = let a = s.args in target_cost zero_discount a.source.now a.reference.now a.target
 
 abbrev piece_of : Start → MotionVector → ℕ → List MotionVector
 piece_of s = dense_row s.args.w s.args.best.vector.y
@@ -28,13 +28,13 @@ piece_of s = dense_row s.args.w s.args.best.vector.y
 best_within : (c : In-loop-j) → Within 1023 c.loop-j.b.vector
 best_within c =
     subst (λ (b : Scored). Within 1023 b.vector) (sym c.loop-j.invariant.2)
-    (rows_within (costOf (goal.at.In-loop-j c).Start) c.args.w c.args.best.vector.y c.args.best c.loop-j.j c.requires.0.window_small c.requires.1)
+    (rows_within (cost_of (goal.at.In-loop-j c).Start) c.args.w c.args.best.vector.y c.args.best c.loop-j.j c.requires.0.window_small c.requires.1)
 
 -- and costs no more than zero does
-best_small : (c : In-loop-j) → NoMoreThanZero (costOf (goal.at.In-loop-j c).Start) c.loop-j.b
+best_small : (c : In-loop-j) → NoMoreThanZero (cost_of (goal.at.In-loop-j c).Start) c.loop-j.b
 best_small c =
-    subst (λ (b : Scored). NoMoreThanZero (costOf (goal.at.In-loop-j c).Start) b) (sym c.loop-j.invariant.2)
-    (rows_small (costOf (goal.at.In-loop-j c).Start) (piece_of (goal.at.In-loop-j c).Start) c.args.best c.loop-j.j c.requires.0.best_small)
+    subst (λ (b : Scored). NoMoreThanZero (cost_of (goal.at.In-loop-j c).Start) b) (sym c.loop-j.invariant.2)
+    (rows_small (cost_of (goal.at.In-loop-j c).Start) (piece_of (goal.at.In-loop-j c).Start) c.args.best c.loop-j.j c.requires.0.best_small)
 
 row_within : (w : ℕ) (v d : MotionVector) (j : ℕ) → Within 1023 d → Within 1023 v → j < 7 → Within 4096 (dense_row_at w v.y d j).from
 row_within w v d j p q h =
@@ -70,11 +70,11 @@ loop-j-preserved c =
       omega (arith, c.loop-j-test.true),
       omega (arith, c.loop-j.invariant.1),
       c.strip_search-b.ensures
-          ∙ ap (λ (r : Row). kept_of (costOf (goal.at.loop-j-preserved c).Start) c.loop-j.b (row_of r)) c.dense_row-row.ensures
-          ∙ ap (λ (b : Scored). kept_of (costOf (goal.at.loop-j-preserved c).Start) b (piece_of (goal.at.loop-j-preserved c).Start b.vector j)) c.loop-j.invariant.2
-          ∙ sym (kept_rows_more (costOf (goal.at.loop-j-preserved c).Start) (piece_of (goal.at.loop-j-preserved c).Start) c.args.best j),
+          ∙ ap (λ (r : Row). kept_of (cost_of (goal.at.loop-j-preserved c).Start) c.loop-j.b (row_of r)) c.dense_row-row.ensures
+          ∙ ap (λ (b : Scored). kept_of (cost_of (goal.at.loop-j-preserved c).Start) b (piece_of (goal.at.loop-j-preserved c).Start b.vector j)) c.loop-j.invariant.2
+          ∙ sym (kept_rows_more (cost_of (goal.at.loop-j-preserved c).Start) (piece_of (goal.at.loop-j-preserved c).Start) c.args.best j),
     )
 
 pub returns : goal.returns
 returns c =
-    c.loop-j.invariant.2 ∙ ap (kept_rows (costOf (goal.at.returns c).Start) (piece_of (goal.at.returns c).Start) c.args.best) (omega (arith, c.loop-j-test.false, c.loop-j.invariant.0))
+    c.loop-j.invariant.2 ∙ ap (kept_rows (cost_of (goal.at.returns c).Start) (piece_of (goal.at.returns c).Start) c.args.best) (omega (arith, c.loop-j-test.false, c.loop-j.invariant.0))

@@ -29,8 +29,8 @@ from_within m seed h =
     let y = quotient_small seed.y u 2048 h.y_above h.y_below in
     lowered_within 2048 4000 2 (quot_z seed.x (pos u)) (quot_z seed.y (pos u)) (omega arith) x.0 x.1 y.0 y.1
 
-abbrev sumIn : Start → MotionVector → ℕ
-sumIn s = let a = s.args in copied_sum (block_of a.source.now a.reference.now a.target)
+abbrev sum_in : Start → MotionVector → ℕ
+sum_in s = let a = s.args in copied_sum (block_of a.source.now a.reference.now a.target)
 
 pub zero_start-zero-requires : goal.zero_start-zero-requires
 zero_start-zero-requires c = c.requires.ready
@@ -46,14 +46,14 @@ square_search-requires c =
       some = omega arith;
       few = omega arith;
       patch_fits = subst (λ (n : ℕ). 144 ≡ (n + 5 - 1) * (n + 5 - 1)) (sym c.requires.eight) refl;
-      best_small = zero_small (discounted 0 (sumIn (goal.at.square_search-requires c).Start)) c.zero_start-zero.result c.zero_start-zero.ensures;
+      best_small = zero_small (discounted 0 (sum_in (goal.at.square_search-requires c).Start)) c.zero_start-zero.result c.zero_start-zero.ensures;
     }
 
 pub returns : goal.returns
 unfolding eight_best
 returns c =
     let w = c.args.w in
-    let sum = sumIn (goal.at.returns c).Start in
+    let sum = sum_in (goal.at.returns c).Start in
     c.square_search.ensures
     ∙ ap₂ (λ (b : Scored) (f : MotionVector). kept_of (discounted 0 sum) b (square_of (record { from = f; count = 5; outer = w })))
     c.zero_start-zero.ensures c.seed_from-from.ensures

@@ -19,22 +19,22 @@ use Rattle.full_search.proofs.full.full_search.Goals as goal
 abbrev block_at : Start → Block
 block_at s = let a = s.args in block_of a.source.now a.reference.now a.target
 
-abbrev costOf : Start → MotionVector → ℕ
-costOf s = let a = s.args in target_cost zero_discount a.source.now a.reference.now a.target
+abbrev cost_of : Start → MotionVector → ℕ
+cost_of s = let a = s.args in target_cost zero_discount a.source.now a.reference.now a.target
 
-near_small : (c : After-near_search-near) → NoMoreThanZero (costOf (goal.at.After-near_search-near c).Start) c.near_search-near.result
+near_small : (c : After-near_search-near) → NoMoreThanZero (cost_of (goal.at.After-near_search-near c).Start) c.near_search-near.result
 near_small c =
-    let cost = costOf (goal.at.After-near_search-near c).Start in
+    let cost = cost_of (goal.at.After-near_search-near c).Start in
     kept_small cost near_rows (at_cost cost zero_vector) c.near_search-near.result c.near_search-near.ensures (zero_small cost (at_cost cost zero_vector) refl)
 
 coarse_is : (c : After-lattice_search-coarse)
-    → c.lattice_search-coarse.result ≡ kept_of (costOf (goal.at.After-lattice_search-coarse c).Start) (found (costOf (goal.at.After-lattice_search-coarse c).Start) near_rows) (lattice_of c.args.w (block_at (goal.at.After-lattice_search-coarse c).Start))
+    → c.lattice_search-coarse.result ≡ kept_of (cost_of (goal.at.After-lattice_search-coarse c).Start) (found (cost_of (goal.at.After-lattice_search-coarse c).Start) near_rows) (lattice_of c.args.w (block_at (goal.at.After-lattice_search-coarse c).Start))
 coarse_is c =
-    c.lattice_search-coarse.ensures ∙ ap (λ (b : Scored). kept_of (costOf (goal.at.After-lattice_search-coarse c).Start) b (lattice_of c.args.w (block_at (goal.at.After-lattice_search-coarse c).Start))) c.near_search-near.ensures
+    c.lattice_search-coarse.ensures ∙ ap (λ (b : Scored). kept_of (cost_of (goal.at.After-lattice_search-coarse c).Start) b (lattice_of c.args.w (block_at (goal.at.After-lattice_search-coarse c).Start))) c.near_search-near.ensures
 
-coarse_small : (c : After-lattice_search-coarse) → NoMoreThanZero (costOf (goal.at.After-lattice_search-coarse c).Start) c.lattice_search-coarse.result
+coarse_small : (c : After-lattice_search-coarse) → NoMoreThanZero (cost_of (goal.at.After-lattice_search-coarse c).Start) c.lattice_search-coarse.result
 coarse_small c =
-    kept_small (costOf (goal.at.After-lattice_search-coarse c).Start) (lattice_of c.args.w (block_at (goal.at.After-lattice_search-coarse c).Start)) c.near_search-near.result c.lattice_search-coarse.result c.lattice_search-coarse.ensures
+    kept_small (cost_of (goal.at.After-lattice_search-coarse c).Start) (lattice_of c.args.w (block_at (goal.at.After-lattice_search-coarse c).Start)) c.near_search-near.result c.lattice_search-coarse.result c.lattice_search-coarse.ensures
     (near_small (goal.at.After-lattice_search-coarse c).After-near_search-near)
 
 pub near_search-near-requires : goal.near_search-near-requires
@@ -44,7 +44,7 @@ near_search-near-requires c =
 pub returns-then-fcode-le1 : goal.returns-then-fcode-le1
 unfolding sixteen_best
 returns-then-fcode-le1 c =
-    c.near_search-near.ensures ∙ full_small (costOf (goal.at.returns-then-fcode-le1 c).Start) c.args.fcode c.args.w (block_at (goal.at.returns-then-fcode-le1 c).Start) c.if-fcode-le1.true
+    c.near_search-near.ensures ∙ full_small (cost_of (goal.at.returns-then-fcode-le1 c).Start) c.args.fcode c.args.w (block_at (goal.at.returns-then-fcode-le1 c).Start) c.if-fcode-le1.true
 
 pub lattice_search-coarse-requires : goal.lattice_search-coarse-requires
 lattice_search-coarse-requires c =
@@ -53,18 +53,18 @@ lattice_search-coarse-requires c =
 pub dense_search-requires : goal.dense_search-requires
 dense_search-requires c = (
   record { ready = c.requires.0; sixteen = c.requires.1; window_small = c.requires.2; best_small = coarse_small (goal.at.dense_search-requires c).After-lattice_search-coarse },
-  subst (λ (b : Scored). Within 1023 b.vector) (sym (coarse_is (goal.at.dense_search-requires c).After-lattice_search-coarse)) (coarse_within (costOf (goal.at.dense_search-requires c).Start) c.args.w (block_at (goal.at.dense_search-requires c).Start) c.requires.2),
+  subst (λ (b : Scored). Within 1023 b.vector) (sym (coarse_is (goal.at.dense_search-requires c).After-lattice_search-coarse)) (coarse_within (cost_of (goal.at.dense_search-requires c).Start) c.args.w (block_at (goal.at.dense_search-requires c).Start) c.requires.2),
 )
 
 pub returns-then-coarse-near : goal.returns-then-coarse-near
 unfolding sixteen_best
 returns-then-coarse-near c =
     c.dense_search.ensures
-    ∙ full_dense (costOf (goal.at.returns-then-coarse-near c).Start) c.args.fcode c.args.w (block_at (goal.at.returns-then-coarse-near c).Start) c.if-fcode-le1.false c.near_search-near.result c.lattice_search-coarse.result
+    ∙ full_dense (cost_of (goal.at.returns-then-coarse-near c).Start) c.args.fcode c.args.w (block_at (goal.at.returns-then-coarse-near c).Start) c.if-fcode-le1.false c.near_search-near.result c.lattice_search-coarse.result
     c.near_search-near.ensures c.lattice_search-coarse.ensures c.if-coarse-near.true
 
 pub returns : goal.returns
 unfolding sixteen_best
 returns c =
-    full_near (costOf (goal.at.returns c).Start) c.args.fcode c.args.w (block_at (goal.at.returns c).Start) c.if-fcode-le1.false c.near_search-near.result c.lattice_search-coarse.result
+    full_near (cost_of (goal.at.returns c).Start) c.args.fcode c.args.w (block_at (goal.at.returns c).Start) c.if-fcode-le1.false c.near_search-near.result c.lattice_search-coarse.result
     c.near_search-near.ensures c.lattice_search-coarse.ensures c.if-coarse-near.false

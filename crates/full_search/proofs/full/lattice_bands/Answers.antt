@@ -18,8 +18,8 @@ use Rattle.full_search.proofs.full.lattice_bands.Goals as goal
 less_all : (n : ℕ) → 0 ≤ n
 less_all n = omega arith
 
-abbrev costOf : Start → MotionVector → ℕ
-costOf s = let a = s.args in target_cost zero_discount a.source.now a.reference.now a.target
+abbrev cost_of : Start → MotionVector → ℕ
+cost_of s = let a = s.args in target_cost zero_discount a.source.now a.reference.now a.target
 
 abbrev size_of : Start → ℕ
 size_of s = (16 + s.args.first.step * s.args.first.count) * 28
@@ -79,7 +79,7 @@ band_search-b-requires c =
       run_small = c.requires.0.run_small;
       few = omega (arith, c.band_rows-n.ensures);
       band_fits = long;
-      best_small = kept_small (costOf (goal.at.band_search-b-requires c).Start) (rows_below a.first j) a.best c.loop-j.b c.loop-j.invariant.2 c.requires.0.best_small;
+      best_small = kept_small (cost_of (goal.at.band_search-b-requires c).Start) (rows_below a.first j) a.best c.loop-j.b c.loop-j.invariant.2 c.requires.0.best_small;
     })
 
 lent : (k : After-band_search-b) → 0 + length k.band_search-b.new.band ≡ size_of (goal.at.After-band_search-b k).Start
@@ -112,8 +112,8 @@ loop-j-preserved c =
     let n = c.band_rows-n.result in (
       omega (arith, c.loop-j-test.true, c.band_rows-n.ensures),
       put_length c.loop-j.band c.band_search-b.new.band 0 (size_of (goal.at.loop-j-preserved c).Start) (lent (goal.at.loop-j-preserved c).After-band_search-b) (room (goal.at.loop-j-preserved c).In-loop-j) ∙ c.loop-j.invariant.1,
-      band_more (costOf (goal.at.loop-j-preserved c).Start) a.best b c.band_search-b.result a.first c.loop-j.j n c.loop-j.invariant.2
-          (c.band_search-b.ensures ∙ ap (λ (r : Row). kept_of (costOf (goal.at.loop-j-preserved c).Start) b (rows_below r n)) c.row_below-row.ensures),
+      band_more (cost_of (goal.at.loop-j-preserved c).Start) a.best b c.band_search-b.result a.first c.loop-j.j n c.loop-j.invariant.2
+          (c.band_search-b.ensures ∙ ap (λ (r : Row). kept_of (cost_of (goal.at.loop-j-preserved c).Start) b (rows_below r n)) c.row_below-row.ensures),
     )
 
 pub shape_of-band : goal.shape_of-band
@@ -122,7 +122,7 @@ shape_of-band c = c.loop-j.invariant.1
 pub returns : goal.returns
 returns c =
     let l = c.loop-j in
-    l.invariant.2 ∙ ap (λ (n : ℕ). kept_of (costOf (goal.at.returns c).Start) c.args.best (rows_below c.args.first n)) (last _ _ c.loop-j-test.false l.invariant.0)
+    l.invariant.2 ∙ ap (λ (n : ℕ). kept_of (cost_of (goal.at.returns c).Start) c.args.best (rows_below c.args.first n)) (last _ _ c.loop-j-test.false l.invariant.0)
   where
     last : (j n : ℕ) → n ≤ j → j ≤ n → j ≡ n
     last j n h k = omega arith

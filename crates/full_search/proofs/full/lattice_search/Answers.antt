@@ -30,8 +30,8 @@ from_at c = (goal.at.After-places-lines c).After-lattice_from-from
 abbrev columns_at : After-places-lines → After-places-count
 columns_at c = (goal.at.After-places-lines c).After-places-count
 
-abbrev costOf : Start → MotionVector → ℕ
-costOf s = let a = s.args in target_cost zero_discount a.source.now a.reference.now a.target
+abbrev cost_of : Start → MotionVector → ℕ
+cost_of s = let a = s.args in target_cost zero_discount a.source.now a.reference.now a.target
 
 -- the corner's parts, as they are read
 across : (c : After-part) → c.part.result ≡ above c.args.target.corner.x
@@ -114,13 +114,13 @@ rows_ready c step most h =
 -- what a search over them keeps
 rows-kept : (c : After-places-lines) (b : Scored)
     → let s = start_of (from_at c) in
-    b ≡ kept_of (costOf s) s.args.best
+    b ≡ kept_of (cost_of s) s.args.best
     (rows_below (lattice_first s.args.w (from_at c).lattice_from-from.result (columns_at c).places-count.result) c.places-lines.result)
-    → b ≡ kept_of (costOf s) s.args.best (target_lattice s.args.w s.args.target)
+    → b ≡ kept_of (cost_of s) s.args.best (target_lattice s.args.w s.args.target)
 rows-kept c b e =
     let s = start_of (from_at c) in
     let t = s.args.target in
-    lattice-kept (costOf s) s.args.best b s.args.w t.corner t.geometry.width t.geometry.height (from_at c).lattice_from-from.result
+    lattice-kept (cost_of s) s.args.best b s.args.w t.corner t.geometry.width t.geometry.height (from_at c).lattice_from-from.result
     (columns_at c).places-count.result c.places-lines.result c.places-lines.result e refl (from_at c).lattice_from-from.ensures (columns_are (columns_at c)) (lines_are c)
 
 pub narrow_lattice-requires : goal.narrow_lattice-requires

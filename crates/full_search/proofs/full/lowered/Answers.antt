@@ -11,16 +11,16 @@ use Rattle.full_search.proofs.full.lowered.Goals.{Start}
 use Rattle.full_search.proofs.full.lowered.Goals as goal
 
 -- what the machine takes off, and that it fits
-rest-is : (s : Start) → to_z w32 (of_z w32 s.args.z) -ℤ to_z w32 s.args.by ≡ s.args.z -ℤ pos s.args.by
-rest-is s = ap₂ ◌-ℤ◌ (to_z-of_z w32 s.args.z s.ranges.z) (to_z_pos w32 {n = s.args.by} (omega arith))
+rest_is : (s : Start) → to_z w32 (of_z w32 s.args.z) -ℤ to_z w32 s.args.by ≡ s.args.z -ℤ pos s.args.by
+rest_is s = ap₂ ◌-ℤ◌ (to_z-of_z w32 s.args.z s.ranges.z) (to_z_pos w32 {n = s.args.by} (omega arith))
 
-rest-fits : (s : Start) → SFits w32 (s.args.z -ℤ pos s.args.by)
-rest-fits s =
+rest_fits : (s : Start) → SFits w32 (s.args.z -ℤ pos s.args.by)
+rest_fits s =
     let z = s.args.z in
     parts_fit (z -ℤ pos s.args.by) (omega (arith, above-sub z (pos s.args.by), sides z)) (omega (arith, below_sub z (pos s.args.by), sides z))
 
 pub overflow_sub-result : goal.overflow_sub-result
-overflow_sub-result c = subst (SFits w32) (sym (rest-is (goal.at.overflow_sub-result c).Start)) (rest-fits (goal.at.overflow_sub-result c).Start)
+overflow_sub-result c = subst (SFits w32) (sym (rest_is (goal.at.overflow_sub-result c).Start)) (rest_fits (goal.at.overflow_sub-result c).Start)
 
 pub returns : goal.returns
-returns c = ap (λ (v : ℤ). to_z w32 (of_z w32 v)) (rest-is (goal.at.returns c).Start) ∙ to_z-of_z w32 (c.args.z -ℤ pos c.args.by) (rest-fits (goal.at.returns c).Start)
+returns c = ap (λ (v : ℤ). to_z w32 (of_z w32 v)) (rest_is (goal.at.returns c).Start) ∙ to_z-of_z w32 (c.args.z -ℤ pos c.args.by) (rest_fits (goal.at.returns c).Start)

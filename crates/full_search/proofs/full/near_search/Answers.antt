@@ -4,7 +4,7 @@ use native.Mathlib.Omega.{arith}
 use mathlib.Core.Path.{◌≡◌, refl, sym, subst}
 use lib.ListN.{length}
 use Rattle.plane.specs.Plane.{Plane, plane_of}
-use Rattle.full_search.specs.Block.{blockIn}
+use Rattle.full_search.specs.Block.{block_in}
 use Rattle.full_search.specs.Costs.{zero_discount}
 use Rattle.full_search.specs.Full.{near_square, near_rows}
 use Rattle.full_search.specs.Told.{moved_to}
@@ -14,18 +14,18 @@ use Rattle.full_search.proofs.Patches.{copy_is, copy_length}
 use Rattle.full_search.proofs.full.near_search.Goals.{After-copy_block, Start}
 use Rattle.full_search.proofs.full.near_search.Goals as goal
 
-abbrev planeIn : Start → Plane
-planeIn s = plane_of s.args.reference.now s.args.target.geometry
+abbrev plane_in : Start → Plane
+plane_in s = plane_of s.args.reference.now s.args.target.geometry
 
 -- what the patch holds
-held : (c : After-copy_block) → NearPatch c.copy_block.new.out (planeIn (goal.at.After-copy_block c).Start) c.args.target.corner
+held : (c : After-copy_block) → NearPatch c.copy_block.new.out (plane_in (goal.at.After-copy_block c).Start) c.args.target.corner
 held c =
     let a = c.args in
     copy_is a.reference.now a.target.geometry c.moved_to-at.result (moved_to a.target.corner near_square.from) 32 32
     c.copy_block.result _ _ c.requires.0.reference refl c.moved_to-at.ensures c.copy_block.ensures.value c.copy_block.ensures.out_after
 
 long : (c : After-copy_block) → length c.copy_block.new.out ≡ 1024
-long c = copy_length (planeIn (goal.at.After-copy_block c).Start) (moved_to c.args.target.corner near_square.from) 32 32 _ (held c)
+long c = copy_length (plane_in (goal.at.After-copy_block c).Start) (moved_to c.args.target.corner near_square.from) 32 32 _ (held c)
 
 pub moved_to-at-requires : goal.moved_to-at-requires
 moved_to-at-requires c =
@@ -44,5 +44,5 @@ pub returns : goal.returns
 returns c =
     let a = c.args in
     let corner = a.target.corner in
-    subst (λ (n : ℕ). c.near_rows.result ≡ found (copied_cost zero_discount (blockIn n a.source.now (planeIn (goal.at.returns c).Start) corner)) near_rows)
-    (sym c.requires.1) (c.near_rows.ensures.kept (planeIn (goal.at.returns c).Start) corner (held (goal.at.returns c).After-copy_block))
+    subst (λ (n : ℕ). c.near_rows.result ≡ found (copied_cost zero_discount (block_in n a.source.now (plane_in (goal.at.returns c).Start) corner)) near_rows)
+    (sym c.requires.1) (c.near_rows.ensures.kept (plane_in (goal.at.returns c).Start) corner (held (goal.at.returns c).After-copy_block))

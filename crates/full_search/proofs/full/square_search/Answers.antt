@@ -25,18 +25,18 @@ copied c = (goal.at.In-loop-j c).After-copy_block
 abbrev width_of : Start → ℕ
 width_of s = s.args.target.side + s.args.square.count - 1
 
-abbrev firstPlace : Start → Point
-firstPlace s = moved_to s.args.target.corner s.args.square.from
+abbrev first_place : Start → Point
+first_place s = moved_to s.args.target.corner s.args.square.from
 
 -- what the patch holds
 held : (c : After-copy_block)
     → let a = c.args in
     c.copy_block.new.out
-    ≡ copied_block (plane_of a.reference.now a.target.geometry) (firstPlace (goal.at.After-copy_block c).Start) (width_of (goal.at.After-copy_block c).Start) (width_of (goal.at.After-copy_block c).Start)
+    ≡ copied_block (plane_of a.reference.now a.target.geometry) (first_place (goal.at.After-copy_block c).Start) (width_of (goal.at.After-copy_block c).Start) (width_of (goal.at.After-copy_block c).Start)
 held c =
     let a = c.args in
     let p = c.requires in
-    copy_is a.reference.now a.target.geometry c.moved_to-at.result (firstPlace (goal.at.After-copy_block c).Start) (width_of (goal.at.After-copy_block c).Start) (width_of (goal.at.After-copy_block c).Start)
+    copy_is a.reference.now a.target.geometry c.moved_to-at.result (first_place (goal.at.After-copy_block c).Start) (width_of (goal.at.After-copy_block c).Start) (width_of (goal.at.After-copy_block c).Start)
     c.copy_block.result a.patch.now _ p.ready.reference p.patch_fits c.moved_to-at.ensures
     c.copy_block.ensures.value c.copy_block.ensures.out_after
 
@@ -89,7 +89,7 @@ row_search-b-requires c =
     let s = start (goal.at.row_search-b-requires c).After-copy_block in
     let a = s.args in
     let side = a.target.side in
-    let long = copy_length (plane_of a.reference.now a.target.geometry) (firstPlace s) (width_of s) (width_of s) _ (held (goal.at.row_search-b-requires c).After-copy_block) in
+    let long = copy_length (plane_of a.reference.now a.target.geometry) (first_place s) (width_of s) (width_of s) _ (held (goal.at.row_search-b-requires c).After-copy_block) in
     let patch = c.copy_block.new.out in
     let lines : Lines = record { first = c.loop-j.j * width_of s; stride = width_of s } in
     subst (λ (r : Row). RowReady side a.source.now patch lines r) (sym c.square_row-row.ensures)

@@ -14,18 +14,18 @@ use Rattle.full_search.proofs.full.strip_search.Goals as goal
 abbrev width_of : Start → ℕ
 width_of s = s.args.target.side + s.args.row.step * s.args.row.count
 
-abbrev firstPlace : Start → Point
-firstPlace s = moved_to s.args.target.corner s.args.row.from
+abbrev first_place : Start → Point
+first_place s = moved_to s.args.target.corner s.args.row.from
 
 -- what the strip then holds
 held : (c : After-copy_block)
     → let a = c.args in
     c.copy_block.new.out
-    ≡ copied_block (plane_of a.reference.now a.target.geometry) (firstPlace (goal.at.After-copy_block c).Start) (width_of (goal.at.After-copy_block c).Start) a.target.side
+    ≡ copied_block (plane_of a.reference.now a.target.geometry) (first_place (goal.at.After-copy_block c).Start) (width_of (goal.at.After-copy_block c).Start) a.target.side
 held c =
     let a = c.args in
     let p = c.requires in
-    copy_is a.reference.now a.target.geometry c.moved_to-at.result (firstPlace (goal.at.After-copy_block c).Start) (width_of (goal.at.After-copy_block c).Start) a.target.side
+    copy_is a.reference.now a.target.geometry c.moved_to-at.result (first_place (goal.at.After-copy_block c).Start) (width_of (goal.at.After-copy_block c).Start) a.target.side
     c.copy_block.result a.strip.now _ p.ready.reference p.strip_fits c.moved_to-at.ensures
     c.copy_block.ensures.value c.copy_block.ensures.out_after
 
@@ -46,7 +46,7 @@ row_search-requires c =
     let a = c.args in
     let p = c.requires in
     let side = a.target.side in
-    let long = copy_length (plane_of a.reference.now a.target.geometry) (firstPlace (goal.at.row_search-requires c).Start) (width_of (goal.at.row_search-requires c).Start) side _ (held (goal.at.row_search-requires c).After-copy_block) in
+    let long = copy_length (plane_of a.reference.now a.target.geometry) (first_place (goal.at.row_search-requires c).Start) (width_of (goal.at.row_search-requires c).Start) side _ (held (goal.at.row_search-requires c).After-copy_block) in
     record {
       is_side_is = p.ready.is_side_is;
       source_fits = p.ready.source_fits;

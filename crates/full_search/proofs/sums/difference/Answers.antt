@@ -19,11 +19,11 @@ pub overflow_sub-d : goal.overflow_sub-d
 overflow_sub-d c = minus_fits c.args.a c.args.b (omega arith) (omega arith)
 
 -- its two parts
-minus-up : (s : Start) → above (minus s) ≡ s.args.a - s.args.b
-minus-up s = minus_above s.args.a s.args.b (omega arith) (omega arith)
+minus_up : (s : Start) → above (minus s) ≡ s.args.a - s.args.b
+minus_up s = minus_above s.args.a s.args.b (omega arith) (omega arith)
 
-minus-down : (s : Start) → below (minus s) ≡ s.args.b - s.args.a
-minus-down s = minus_below s.args.a s.args.b (omega arith) (omega arith)
+minus_down : (s : Start) → below (minus s) ≡ s.args.b - s.args.a
+minus_down s = minus_below s.args.a s.args.b (omega arith) (omega arith)
 
 -- what the test says
 low : (c : Then-d-lt0) → above (minus (goal.at.Then-d-lt0 c).Start) < below (minus (goal.at.Then-d-lt0 c).Start)
@@ -37,22 +37,22 @@ abbrev turned : Start → ℤ
 turned s = pos 0 -ℤ to_z w32 (of_z w32 (minus s))
 
 turned_up : (s : Start) → above (turned s) ≡ s.args.b - s.args.a
-turned_up s = turned_above w32 (minus s) (overflow_sub-d s) ∙ minus-down s
+turned_up s = turned_above w32 (minus s) (overflow_sub-d s) ∙ minus_down s
 
 turned_down : (s : Start) → below (turned s) ≡ s.args.a - s.args.b
-turned_down s = turned_below w32 (minus s) (overflow_sub-d s) ∙ minus-up s
+turned_down s = turned_below w32 (minus s) (overflow_sub-d s) ∙ minus_up s
 
 pub overflow_sub-result : goal.overflow_sub-result
 overflow_sub-result c = parts_fit (turned (goal.at.overflow_sub-result c).Start) (omega (arith, turned_up (goal.at.overflow_sub-result c).Start)) (omega (arith, turned_down (goal.at.overflow_sub-result c).Start))
 
 not_below_lem : (c : Then-d-lt0) → below (turned (goal.at.Then-d-lt0 c).Start) ≡ 0
-not_below_lem c = omega (arith, low c, minus-up (goal.at.Then-d-lt0 c).Start, minus-down (goal.at.Then-d-lt0 c).Start, turned_down (goal.at.Then-d-lt0 c).Start)
+not_below_lem c = omega (arith, low c, minus_up (goal.at.Then-d-lt0 c).Start, minus_down (goal.at.Then-d-lt0 c).Start, turned_down (goal.at.Then-d-lt0 c).Start)
 
 pub overflow_cast-result : goal.overflow_cast-result
 overflow_cast-result c = cast_read w32 w32 (turned (goal.at.overflow_cast-result c).Start) tt (overflow_sub-result (goal.at.overflow_cast-result c).Then-d-lt0) (not_below_lem (goal.at.overflow_cast-result c).Then-d-lt0)
 
 not_below_2 : (c : Else-d-lt0) → below (minus (goal.at.Else-d-lt0 c).Start) ≡ 0
-not_below_2 c = omega (arith, high c, minus-up (goal.at.Else-d-lt0 c).Start, minus-down (goal.at.Else-d-lt0 c).Start)
+not_below_2 c = omega (arith, high c, minus_up (goal.at.Else-d-lt0 c).Start, minus_down (goal.at.Else-d-lt0 c).Start)
 
 pub overflow_cast-result-else-d-lt0 : goal.overflow_cast-result-else-d-lt0
 overflow_cast-result-else-d-lt0 c = cast_read w32 w32 (minus (goal.at.overflow_cast-result-else-d-lt0 c).Start) tt (overflow_sub-d (goal.at.overflow_cast-result-else-d-lt0 c).Start) (not_below_2 (goal.at.overflow_cast-result-else-d-lt0 c).Else-d-lt0)
@@ -65,4 +65,4 @@ returns-then-d-lt0 c =
 pub returns-else-d-lt0 : goal.returns-else-d-lt0
 returns-else-d-lt0 c =
     let e = cast_value w32 (minus (goal.at.returns-else-d-lt0 c).Start) (overflow_sub-d (goal.at.returns-else-d-lt0 c).Start) (not_below_2 (goal.at.returns-else-d-lt0 c).Else-d-lt0) in
-    (omega (arith, minus-up (goal.at.returns-else-d-lt0 c).Start, minus-down (goal.at.returns-else-d-lt0 c).Start, not_below_2 (goal.at.returns-else-d-lt0 c).Else-d-lt0), omega (arith, minus-up (goal.at.returns-else-d-lt0 c).Start))
+    (omega (arith, minus_up (goal.at.returns-else-d-lt0 c).Start, minus_down (goal.at.returns-else-d-lt0 c).Start, not_below_2 (goal.at.returns-else-d-lt0 c).Else-d-lt0), omega (arith, minus_up (goal.at.returns-else-d-lt0 c).Start))

@@ -18,17 +18,17 @@ row_by s p q r =
     let a = s.args in
     tabulate (length a.out.now) (average_at a.top.now a.low.now (record { x = p; y = q; rc = r }))
 
-abbrev rowWith : Start → Bool → Bool → List ℕ
-rowWith s p q = row_by s p q s.args.halves.rc
+abbrev row_with : Start → Bool → Bool → List ℕ
+row_with s p q = row_by s p q s.args.halves.rc
 
 -- the rounding control is 0 or 1
-rc-is : (s : Start) → s.args.halves.rc % 2 ≡ s.args.halves.rc
-rc-is s = omega (arith, s.requires.rc_small)
+rc_is : (s : Start) → s.args.halves.rc % 2 ≡ s.args.halves.rc
+rc_is s = omega (arith, s.requires.rc_small)
 
 -- by what the two tests showed
 row_is : (s : Start) (p q : Bool) → s.args.halves.x ≡ p → s.args.halves.y ≡ q
-    → row_by s p q (s.args.halves.rc % 2) ≡ rowWith s s.args.halves.x s.args.halves.y
-row_is s p q e f = ap (row_by s p q) (rc-is s) ∙ ap₂ (rowWith s) (sym e) (sym f)
+    → row_by s p q (s.args.halves.rc % 2) ≡ row_with s s.args.halves.x s.args.halves.y
+row_is s p q e f = ap (row_by s p q) (rc_is s) ∙ ap₂ (row_with s) (sym e) (sym f)
 
 pub row_d-requires : goal.row_d-requires
 row_d-requires c =

@@ -13,8 +13,8 @@ use Rattle.hencouch.proofs.copied.hencouch_copy_block.Goals.{After-point_of-at, 
 use Rattle.hencouch.proofs.copied.hencouch_copy_block.Goals as goal
 
 -- the block from a point on
-abbrev blockFor : Start → Point → List ℕ
-blockFor s at =
+abbrev block_for : Start → Point → List ℕ
+block_for s at =
     let a = s.args in
     copied_block (plane_of a.samples.now (geometry_of a.width a.height a.stride)) at a.block_w a.block_h
 
@@ -26,4 +26,4 @@ point_is c =
 pub returns : goal.returns
 returns c =
     let e = c.copy_block-reply.ensures in
-    (c.code.ensures ∙ ap code_of e.value, e.out_after ∙ λ i. done (e.value i) (blockFor (goal.at.returns c).Start (point_is (goal.at.returns c).After-point_of-at i)) c.args.out.now)
+    (c.code.ensures ∙ ap code_of e.value, e.out_after ∙ λ i. done (e.value i) (block_for (goal.at.returns c).Start (point_is (goal.at.returns c).After-point_of-at i)) c.args.out.now)

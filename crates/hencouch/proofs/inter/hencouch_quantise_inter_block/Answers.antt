@@ -20,13 +20,13 @@ module _ (s : Start) where
   abbrev by : Bool → Quantising
   by first = let a = s.args in quantising_of a.quantiser first a.weights.now a.scan
 
-  abbrev replyFor : Bool → Reply
-  replyFor first =
+  abbrev reply_for : Bool → Reply
+  reply_for first =
       let a = s.args in
       coding_reply 64 a.residual.now (by first) (length a.lasts.now) (length a.runs.now) (length a.levels.now)
 
   abbrev told_for : Bool → Events
-  told_for first = block_events (replyFor first) (by first) s.args.residual.now
+  told_for first = block_events (reply_for first) (by first) s.args.residual.now
 
 pub returns : goal.returns
 returns c =
@@ -43,5 +43,5 @@ returns c =
           ∙ ap (λ (t : Events). done t.reply (block_areas (by (goal.at.returns c).Start first) a.residual.now) old) told,
       w.count_after
           ∙ ap (λ (t : Events). done t.reply t.count a.count.now) told
-          ∙ done_again (replyFor (goal.at.returns c).Start first) (λ (n : ℕ). n) (count_of (by (goal.at.returns c).Start first) a.residual.now) 0 a.count.now,
+          ∙ done_again (reply_for (goal.at.returns c).Start first) (λ (n : ℕ). n) (count_of (by (goal.at.returns c).Start first) a.residual.now) 0 a.count.now,
     )

@@ -21,13 +21,13 @@ module _ (s : Start) where
   abbrev by : Bool → Quantising
   by first = let a = s.args in quantising_of a.quantiser first a.weights.now a.scan
 
-  abbrev replyFor : Bool → Reply
-  replyFor first =
+  abbrev reply_for : Bool → Reply
+  reply_for first =
       let a = s.args in
       coding_reply 384 a.residual.now (by first) (length a.lasts.now) (length a.runs.now) (length a.levels.now)
 
   abbrev told_for : Bool → Counted
-  told_for first = residual_events (replyFor first) (by first) s.args.residual.now
+  told_for first = residual_events (reply_for first) (by first) s.args.residual.now
 
 pub returns : goal.returns
 returns c =
@@ -44,5 +44,5 @@ returns c =
           ∙ ap (λ (t : Counted). done t.reply (areas_of (by (goal.at.returns c).Start first) a.residual.now) old) told,
       w.counts_after
           ∙ ap (λ (t : Counted). done t.reply t.counts a.counts.now) told
-          ∙ done_again (replyFor (goal.at.returns c).Start first) (λ (n : List ℕ). n) (counts_of (by (goal.at.returns c).Start first) a.residual.now) (replicate 6 0) a.counts.now,
+          ∙ done_again (reply_for (goal.at.returns c).Start first) (λ (n : List ℕ). n) (counts_of (by (goal.at.returns c).Start first) a.residual.now) (replicate 6 0) a.counts.now,
     )

@@ -13,15 +13,15 @@ use Rattle.hencouch.proofs.levels.hencouch_levels_to_events.Goals.{After-levels_
 use Rattle.hencouch.proofs.levels.hencouch_levels_to_events.Goals as goal
 
 -- the reply, and what it leaves in the three areas
-abbrev replyFor : Start → Reply
-replyFor s = let a = s.args in events_reply a.levels.now (length a.lasts.now) (length a.runs.now) (length a.out_levels.now)
+abbrev reply_for : Start → Reply
+reply_for s = let a = s.args in events_reply a.levels.now (length a.lasts.now) (length a.runs.now) (length a.out_levels.now)
 
-reply_is : (d : After-levels_to_events-told) → d.levels_to_events-told.result.reply ≡ replyFor (goal.at.After-levels_to_events-told d).Start
+reply_is : (d : After-levels_to_events-told) → d.levels_to_events-told.result.reply ≡ reply_for (goal.at.After-levels_to_events-told d).Start
 reply_is d = ap (λ (e : Events). e.reply) d.levels_to_events-told.ensures.value
 
-areas : (d : After-levels_to_events-told) → (d.levels_to_events-told.new.lasts ≡ done (replyFor (goal.at.After-levels_to_events-told d).Start) (lasts_area d.args.levels.now) d.args.lasts.now)
-    × (d.levels_to_events-told.new.runs ≡ done (replyFor (goal.at.After-levels_to_events-told d).Start) (runs_area d.args.levels.now) d.args.runs.now)
-    × (d.levels_to_events-told.new.out_levels ≡ done (replyFor (goal.at.After-levels_to_events-told d).Start) (levels_area d.args.levels.now) d.args.out_levels.now)
+areas : (d : After-levels_to_events-told) → (d.levels_to_events-told.new.lasts ≡ done (reply_for (goal.at.After-levels_to_events-told d).Start) (lasts_area d.args.levels.now) d.args.lasts.now)
+    × (d.levels_to_events-told.new.runs ≡ done (reply_for (goal.at.After-levels_to_events-told d).Start) (runs_area d.args.levels.now) d.args.runs.now)
+    × (d.levels_to_events-told.new.out_levels ≡ done (reply_for (goal.at.After-levels_to_events-told d).Start) (levels_area d.args.levels.now) d.args.out_levels.now)
 areas d =
     let e = d.levels_to_events-told.ensures in (
       e.lasts_after ∙ ap (λ (r : Reply). done r (lasts_area d.args.levels.now) d.args.lasts.now) (reply_is d),
@@ -38,5 +38,5 @@ returns c =
       (areas (goal.at.returns c).After-levels_to_events-told).2,
       w.count_after
           ∙ ap (λ (t : Events). done t.reply t.count c.args.count.now) c.levels_to_events-told.ensures.value
-          ∙ done_again (replyFor (goal.at.returns c).Start) (λ (n : ℕ). n) (length (events_of c.args.levels.now)) 0 c.args.count.now,
+          ∙ done_again (reply_for (goal.at.returns c).Start) (λ (n : ℕ). n) (length (events_of c.args.levels.now)) 0 c.args.count.now,
     )

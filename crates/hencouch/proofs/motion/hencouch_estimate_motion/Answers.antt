@@ -14,17 +14,17 @@ use Rattle.hencouch.proofs.motion.hencouch_estimate_motion.Goals as goal
 
 -- the reply and the two areas, for what the search answered
 module _ (s : Start) where
-  abbrev replyFor : Estimated → Reply
-  replyFor e = one_areas_reply e.reply (length s.args.vector.now) (length s.args.sum.now)
+  abbrev reply_for : Estimated → Reply
+  reply_for e = one_areas_reply e.reply (length s.args.vector.now) (length s.args.sum.now)
 
   abbrev vector_for : Estimated → List ℤ
-  vector_for e = done (replyFor e) (vector_area e.vector) s.args.vector.now
+  vector_for e = done (reply_for e) (vector_area e.vector) s.args.vector.now
 
   abbrev sum_for : Estimated → List ℕ
-  sum_for e = done (replyFor e) (e.sum ∷ []) s.args.sum.now
+  sum_for e = done (reply_for e) (e.sum ∷ []) s.args.sum.now
 
 pub returns : goal.returns
 returns c =
     let e = c.estimate_motion-found.ensures.result_value in
     let o = c.write_one.ensures in
-    (o.0 ∙ ap (λ (x : Estimated). code_of (replyFor (goal.at.returns c).Start x)) e, o.1 ∙ ap (vector_for (goal.at.returns c).Start) e, o.2 ∙ ap (sum_for (goal.at.returns c).Start) e)
+    (o.0 ∙ ap (λ (x : Estimated). code_of (reply_for (goal.at.returns c).Start x)) e, o.1 ∙ ap (vector_for (goal.at.returns c).Start) e, o.2 ∙ ap (sum_for (goal.at.returns c).Start) e)

@@ -21,14 +21,14 @@ use Rattle.hencouch.proofs.motion.hencouch_estimate_motion_4mv.Goals as goal
 
 module _ (s : Start) where
   -- the reply and the two areas, for what the search answered
-  abbrev replyFor : EstimatedFour → Reply
-  replyFor e = four_areas_reply e.reply (length s.args.vectors.now) (length s.args.sums.now)
+  abbrev reply_for : EstimatedFour → Reply
+  reply_for e = four_areas_reply e.reply (length s.args.vectors.now) (length s.args.sums.now)
 
   abbrev vectors_for : EstimatedFour → List ℤ
-  vectors_for e = done (replyFor e) (vectors_area e.vectors) s.args.vectors.now
+  vectors_for e = done (reply_for e) (vectors_area e.vectors) s.args.vectors.now
 
   abbrev sums_for : EstimatedFour → List ℕ
-  sums_for e = done (replyFor e) e.sums s.args.sums.now
+  sums_for e = done (reply_for e) e.sums s.args.sums.now
 
   -- what it answers for a seed
   abbrev answer_for : MotionVector → EstimatedFour
@@ -47,4 +47,4 @@ pub returns : goal.returns
 returns c =
     let e = c.estimate_motion_4mv-found.ensures.result_value ∙ ap (answer_for (goal.at.returns c).Start) (seed_is (goal.at.returns c).After-vector_of-seed) in
     let o = c.write_four.ensures in
-    (o.0 ∙ ap (λ (x : EstimatedFour). code_of (replyFor (goal.at.returns c).Start x)) e, o.1 ∙ ap (vectors_for (goal.at.returns c).Start) e, o.2 ∙ ap (sums_for (goal.at.returns c).Start) e)
+    (o.0 ∙ ap (λ (x : EstimatedFour). code_of (reply_for (goal.at.returns c).Start x)) e, o.1 ∙ ap (vectors_for (goal.at.returns c).Start) e, o.2 ∙ ap (sums_for (goal.at.returns c).Start) e)

@@ -20,14 +20,14 @@ use Rattle.hencouch.proofs.predicted.hencouch_predict_luma_block.Goals as goal
 
 module _ (s : Start) where
   -- the reply and the block, for a vector and a site
-  abbrev replyFor : MotionVector → Site → Reply
-  replyFor v o =
+  abbrev reply_for : MotionVector → Site → Reply
+  reply_for v o =
       let a = s.args in
       let geometry = geometry_of a.width a.height a.stride in
       luma_block_reply a.mode a.bits_per_pixel geometry (length a.samples.now) v o a.rounding (length a.out.now)
 
-  abbrev blockFor : MotionVector → Site → List ℕ
-  blockFor v o =
+  abbrev block_for : MotionVector → Site → List ℕ
+  block_for v o =
       let a = s.args in
       let geometry = geometry_of a.width a.height a.stride in
       predicted_block (mode_of a.mode a.bits_per_pixel) (plane_of a.samples.now geometry) o a.rounding v
@@ -48,5 +48,5 @@ pub returns : goal.returns
 returns c =
     let v = vector_is (goal.at.returns c).After-vector_of-vector in
     let e = c.predict_luma_block-reply.ensures in
-    let r = e.value ∙ ap₂ (replyFor (goal.at.returns c).Start) v (site_is (goal.at.returns c).After-site_of-site) in
-    (c.code.ensures ∙ ap code_of r, e.out_after ∙ λ i. done (r i) (blockFor (goal.at.returns c).Start (v i) (site_is (goal.at.returns c).After-site_of-site i)) c.args.out.now)
+    let r = e.value ∙ ap₂ (reply_for (goal.at.returns c).Start) v (site_is (goal.at.returns c).After-site_of-site) in
+    (c.code.ensures ∙ ap code_of r, e.out_after ∙ λ i. done (r i) (block_for (goal.at.returns c).Start (v i) (site_is (goal.at.returns c).After-site_of-site i)) c.args.out.now)

@@ -21,14 +21,14 @@ use Rattle.hencouch.proofs.predicted.hencouch_predict_luma_macroblock.Goals as g
 
 module _ (s : Start) where
   -- the reply and the samples, for a motion and a corner
-  abbrev replyFor : PvopMbMotion → Point → Reply
-  replyFor m o =
+  abbrev reply_for : PvopMbMotion → Point → Reply
+  reply_for m o =
       let a = s.args in
       let geometry = geometry_of a.width a.height a.stride in
       luma_macroblock_reply a.mode a.bits_per_pixel geometry (length a.samples.now) m o a.rounding (length a.out.now)
 
-  abbrev lumaFor : PvopMbMotion → Point → List ℕ
-  lumaFor m o =
+  abbrev luma_for : PvopMbMotion → Point → List ℕ
+  luma_for m o =
       let a = s.args in
       let geometry = geometry_of a.width a.height a.stride in
       macroblock_luma (mode_of a.mode a.bits_per_pixel) (plane_of a.samples.now geometry) m o a.rounding
@@ -38,13 +38,13 @@ vector_is : (c : After-vector_of-vector) → let a = c.args in c.vector_of-vecto
 vector_is c =
     c.vector_of-vector.ensures ∙ ap₂ vector_of (to_z-of_z w32 c.args.mv_x c.ranges.mv_x) (to_z-of_z w32 c.args.mv_y c.ranges.mv_y)
 
-corner-is : (c : After-point_of-corner) → let a = c.args in c.point_of-corner.result ≡ point_of a.origin_x a.origin_y
-corner-is c =
+corner_is : (c : After-point_of-corner) → let a = c.args in c.point_of-corner.result ≡ point_of a.origin_x a.origin_y
+corner_is c =
     c.point_of-corner.ensures ∙ ap₂ point_of (to_z-of_z w32 c.args.origin_x c.ranges.origin_x) (to_z-of_z w32 c.args.origin_y c.ranges.origin_y)
 
 pub returns : goal.returns
 returns c =
     let m = ap OneMv (vector_is (goal.at.returns c).After-vector_of-vector) in
     let e = c.predict_luma_macroblock-reply.ensures in
-    let r = e.value ∙ ap₂ (replyFor (goal.at.returns c).Start) m (corner-is (goal.at.returns c).After-point_of-corner) in
-    (c.code.ensures ∙ ap code_of r, e.out_after ∙ λ i. done (r i) (lumaFor (goal.at.returns c).Start (m i) (corner-is (goal.at.returns c).After-point_of-corner i)) c.args.out.now)
+    let r = e.value ∙ ap₂ (reply_for (goal.at.returns c).Start) m (corner_is (goal.at.returns c).After-point_of-corner) in
+    (c.code.ensures ∙ ap code_of r, e.out_after ∙ λ i. done (r i) (luma_for (goal.at.returns c).Start (m i) (corner_is (goal.at.returns c).After-point_of-corner i)) c.args.out.now)

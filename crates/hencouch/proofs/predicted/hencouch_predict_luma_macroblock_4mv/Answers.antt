@@ -20,26 +20,26 @@ use Rattle.hencouch.proofs.predicted.hencouch_predict_luma_macroblock_4mv.Goals 
 
 module _ (s : Start) where
   -- the reply and the samples, for a motion and a corner
-  abbrev replyFor : PvopMbMotion → Point → Reply
-  replyFor m o =
+  abbrev reply_for : PvopMbMotion → Point → Reply
+  reply_for m o =
       let a = s.args in
       let geometry = geometry_of a.width a.height a.stride in
       luma_macroblock_reply a.mode a.bits_per_pixel geometry (length a.samples.now) m o a.rounding (length a.out.now)
 
-  abbrev lumaFor : PvopMbMotion → Point → List ℕ
-  lumaFor m o =
+  abbrev luma_for : PvopMbMotion → Point → List ℕ
+  luma_for m o =
       let a = s.args in
       let geometry = geometry_of a.width a.height a.stride in
       macroblock_luma (mode_of a.mode a.bits_per_pixel) (plane_of a.samples.now geometry) m o a.rounding
 
 -- the numbers are read back as they were handed in
-corner-is : (c : After-point_of-corner) → let a = c.args in c.point_of-corner.result ≡ point_of a.origin_x a.origin_y
-corner-is c =
+corner_is : (c : After-point_of-corner) → let a = c.args in c.point_of-corner.result ≡ point_of a.origin_x a.origin_y
+corner_is c =
     c.point_of-corner.ensures ∙ ap₂ point_of (to_z-of_z w32 c.args.origin_x c.ranges.origin_x) (to_z-of_z w32 c.args.origin_y c.ranges.origin_y)
 
 pub returns : goal.returns
 returns c =
     let m = c.four_motion-motion.ensures in
     let e = c.predict_luma_macroblock-reply.ensures in
-    let r = e.value ∙ ap₂ (replyFor (goal.at.returns c).Start) m (corner-is (goal.at.returns c).After-point_of-corner) in
-    (c.code.ensures ∙ ap code_of r, e.out_after ∙ λ i. done (r i) (lumaFor (goal.at.returns c).Start (m i) (corner-is (goal.at.returns c).After-point_of-corner i)) c.args.out.now)
+    let r = e.value ∙ ap₂ (reply_for (goal.at.returns c).Start) m (corner_is (goal.at.returns c).After-point_of-corner) in
+    (c.code.ensures ∙ ap code_of r, e.out_after ∙ λ i. done (r i) (luma_for (goal.at.returns c).Start (m i) (corner_is (goal.at.returns c).After-point_of-corner i)) c.args.out.now)

@@ -23,8 +23,8 @@ module _ (s : Start) where
   lent = let a = s.args in samples a.y.now a.cb.now a.cr.now
 
   -- the reply and the samples, for a geometry and a motion
-  abbrev replyFor : ReferenceGeometry → PvopMbMotion → Reply
-  replyFor g m =
+  abbrev reply_for : ReferenceGeometry → PvopMbMotion → Reply
+  reply_for g m =
       let a = s.args in
       macroblock_samples_reply a.mode a.bits_per_pixel g (lengths_in referred) m (macroblock_at a.column a.row) a.rounding (lengths_in lent)
 
@@ -38,5 +38,5 @@ returns c =
     let m = c.four_motion-motion.ensures in
     let g = c.reference_geometry-geometry.ensures in
     let e = c.predict_macroblock-reply.ensures in
-    let r = e.0 ∙ ap₂ (replyFor (goal.at.returns c).Start) g m in
+    let r = e.0 ∙ ap₂ (reply_for (goal.at.returns c).Start) g m in
     (c.code.ensures ∙ ap code_of r, e.1 ∙ λ i. done (r i) (made_for (goal.at.returns c).Start (g i) (m i)) (lent (goal.at.returns c).Start))

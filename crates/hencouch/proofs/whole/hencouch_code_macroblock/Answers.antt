@@ -2,7 +2,7 @@
 use mathlib.Core.Path.{ap, ◌∙◌}
 use Rattle.macroblock.specs.declared.Settings.{Settings}
 use Rattle.macroblock.specs.Answer.{answer_of}
-use Rattle.macroblock.specs.Request.{Request, request, replyOf}
+use Rattle.macroblock.specs.Request.{Request, request, reply_of}
 use Rattle.plane.specs.Plane.{geometry_of}
 use Rattle.areas.specs.Numbers.{size_of, macroblock_at, macroblock_settings}
 use Rattle.areas.specs.Whole.{RecordAreas, record_areas}
@@ -30,5 +30,5 @@ module _ (s : Start) where
 pub returns : goal.returns
 returns c =
     let settled = ap (λ (z : Settings). answer_of (asked_by (goal.at.returns c).Start z)) c.settings_of-settings.ensures in
-    record_laid_out (replyOf (asked (goal.at.returns c).Start)) (asked (goal.at.returns c).Start) _ _ _ (lent (goal.at.returns c).Start) (c.code_macroblock-coded.ensures.0 ∙ settled)
+    record_laid_out (reply_of (asked (goal.at.returns c).Start)) (asked (goal.at.returns c).Start) _ _ _ (lent (goal.at.returns c).Start) (c.code_macroblock-coded.ensures.0 ∙ settled)
     c.code.ensures c.write_record.ensures

@@ -15,8 +15,8 @@ use Rattle.macroblock.proofs.ready.code_residual.Goals.{After-macroblock_residua
 use Rattle.macroblock.proofs.ready.code_residual.Goals as goal
 
 module _ (s : Start) where
-  abbrev quantisingAt : Quantising
-  quantisingAt = let t = s.args.settings in quantising_of t.quantiser t.first_method s.args.matrix.now t.scan
+  abbrev quantising_at : Quantising
+  quantising_at = let t = s.args.settings in quantising_of t.quantiser t.first_method s.args.matrix.now t.scan
 
   abbrev source_at : Samples
   source_at = let a = s.args in source_of a.y.now a.cb.now a.cr.now a.size a.place
@@ -45,7 +45,7 @@ residual_is c = left _ _ _ _ _ (residual-done c) refl c.macroblock_residual.ensu
 abbrev residual_at : After-quantise_inter_residual-counted → After-macroblock_residual
 residual_at c = (goal.at.After-quantise_inter_residual-counted c).After-macroblock_residual
 
-counted_is : (c : After-quantise_inter_residual-counted) → c.quantise_inter_residual-counted.result ≡ record { reply = Done; counts = counts_of (quantisingAt (goal.at.After-quantise_inter_residual-counted c).Start) (local (goal.at.After-quantise_inter_residual-counted c).After-macroblock_residual) }
+counted_is : (c : After-quantise_inter_residual-counted) → c.quantise_inter_residual-counted.result ≡ record { reply = Done; counts = counts_of (quantising_at (goal.at.After-quantise_inter_residual-counted c).Start) (local (goal.at.After-quantise_inter_residual-counted c).After-macroblock_residual) }
 counted_is c =
     let p = c.requires in
     coding_taken _ _ _ _ _ _ c.quantise_inter_residual-counted.ensures.0 p.quantisable
@@ -55,7 +55,7 @@ counted_is c =
 
 pub returns : goal.returns
 returns c =
-    let by = quantisingAt (goal.at.returns c).Start in
+    let by = quantising_at (goal.at.returns c).Start in
     let is = counted_is (goal.at.returns c).After-quantise_inter_residual-counted in (
       ap (λ (x : Counted). x.counts) is ∙ ap (counts_of by) (residual_is (goal.at.returns c).After-macroblock_residual),
       left _ Done _ _ _ (ap (λ (x : Counted). x.reply) is) refl c.quantise_inter_residual-counted.ensures.1 ∙ ap (areas_of by) (residual_is (goal.at.returns c).After-macroblock_residual),

@@ -26,9 +26,9 @@ module _ (c : After-clamp_coordinate) where
   inside : c.clamp_coordinate.result * (plane (goal.at.After-clamp_coordinate c).Start).stride + (plane (goal.at.After-clamp_coordinate c).Start).width ≤ length (plane (goal.at.After-clamp_coordinate c).Start).samples
   inside = row_in_plane (plane (goal.at.After-clamp_coordinate c).Start) c.clamp_coordinate.result c.requires.0 (omega (arith, c.clamp_coordinate.ensures))
 
-  row-length : let k = c.clamp_coordinate.result * (plane (goal.at.After-clamp_coordinate c).Start).stride in
+  row_length : let k = c.clamp_coordinate.result * (plane (goal.at.After-clamp_coordinate c).Start).stride in
       length (take (k + (plane (goal.at.After-clamp_coordinate c).Start).width - k) (drop k (plane (goal.at.After-clamp_coordinate c).Start).samples)) ≡ (plane (goal.at.After-clamp_coordinate c).Start).width
-  row-length = part_length (plane (goal.at.After-clamp_coordinate c).Start).samples (c.clamp_coordinate.result * (plane (goal.at.After-clamp_coordinate c).Start).stride) (plane (goal.at.After-clamp_coordinate c).Start).width inside
+  row_length = part_length (plane (goal.at.After-clamp_coordinate c).Start).samples (c.clamp_coordinate.result * (plane (goal.at.After-clamp_coordinate c).Start).stride) (plane (goal.at.After-clamp_coordinate c).Start).width inside
 
 pub overflow_mul-start : goal.overflow_mul-start
 overflow_mul-start c = omega (arith, inside (goal.at.overflow_mul-start c).After-clamp_coordinate, c.well_formed)
@@ -42,7 +42,7 @@ slice_bounds-gather-end c = omega (arith, inside (goal.at.slice_bounds-gather-en
 pub gather-requires : goal.gather-requires
 gather-requires c =
     let q = c.requires in
-    (q.1, columns_in c.args.columns.now (plane (goal.at.gather-requires c).Start).width _ c.args.at.x q.2 q.0.wide (row-length (goal.at.gather-requires c).After-clamp_coordinate))
+    (q.1, columns_in c.args.columns.now (plane (goal.at.gather-requires c).Start).width _ c.args.at.x q.2 q.0.wide (row_length (goal.at.gather-requires c).After-clamp_coordinate))
 
 pub returns : goal.returns
 returns c =
@@ -55,5 +55,5 @@ returns c =
     c.gather.ensures
     ∙ tabulate_cong (length a.out.now) _ (λ i. copied (plane (goal.at.returns c).Start) x a.at.y i a.j)
     (λ i h. ap (λ (m : ℕ). get_or row m 0) (at_column a.columns.now w x i c.requires.2 (omega (arith, c.requires.1)))
-    ∙ ap (λ (m : ℕ). get_or row (clamp_to m (x +ℤ pos i)) 0) (sym (row-length (goal.at.returns c).After-clamp_coordinate))
+    ∙ ap (λ (m : ℕ). get_or row (clamp_to m (x +ℤ pos i)) 0) (sym (row_length (goal.at.returns c).After-clamp_coordinate))
     ∙ in_row (plane (goal.at.returns c).Start) x (a.at.y +ℤ pos a.j) r i c.requires.0.wide (inside (goal.at.returns c).After-clamp_coordinate) (nearest (goal.at.returns c).After-clamp_coordinate))

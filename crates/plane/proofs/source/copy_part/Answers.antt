@@ -19,29 +19,29 @@ near a b h k =
     let l : b ≤ 256 = omega arith in
     product_le h l
 
-near-x : (s : Start) → s.args.side * s.args.place.column ≤ 16 * 256
-near-x s = near _ _ s.requires.side_small s.requires.column_small
+near_x : (s : Start) → s.args.side * s.args.place.column ≤ 16 * 256
+near_x s = near _ _ s.requires.side_small s.requires.column_small
 
-near-y : (s : Start) → s.args.side * s.args.place.row ≤ 16 * 256
-near-y s = near _ _ s.requires.side_small s.requires.row_small
+near_y : (s : Start) → s.args.side * s.args.place.row ≤ 16 * 256
+near_y s = near _ _ s.requires.side_small s.requires.row_small
 
-fit-x : (s : Start) → SFits w32 (pos (s.args.side * s.args.place.column))
-fit-x s = record { sfits = omega (arith, near-x s) }
+fit_x : (s : Start) → SFits w32 (pos (s.args.side * s.args.place.column))
+fit_x s = record { sfits = omega (arith, near_x s) }
 
-fit-y : (s : Start) → SFits w32 (pos (s.args.side * s.args.place.row))
-fit-y s = record { sfits = omega (arith, near-y s) }
+fit_y : (s : Start) → SFits w32 (pos (s.args.side * s.args.place.row))
+fit_y s = record { sfits = omega (arith, near_y s) }
 
 pub overflow_mul-at : goal.overflow_mul-at
-overflow_mul-at c = omega (arith, near-x (goal.at.overflow_mul-at c).Start)
+overflow_mul-at c = omega (arith, near_x (goal.at.overflow_mul-at c).Start)
 
 pub overflow_cast-at : goal.overflow_cast-at
-overflow_cast-at c = fit-x (goal.at.overflow_cast-at c).Start
+overflow_cast-at c = fit_x (goal.at.overflow_cast-at c).Start
 
 pub overflow_mul-at-2 : goal.overflow_mul-at-2
-overflow_mul-at-2 c = omega (arith, near-y (goal.at.overflow_mul-at-2 c).Start)
+overflow_mul-at-2 c = omega (arith, near_y (goal.at.overflow_mul-at-2 c).Start)
 
 pub overflow_cast-at-2 : goal.overflow_cast-at-2
-overflow_cast-at-2 c = fit-y (goal.at.overflow_cast-at-2 c).Start
+overflow_cast-at-2 c = fit_y (goal.at.overflow_cast-at-2 c).Start
 
 pub copy_rows-requires : goal.copy_rows-requires
 copy_rows-requires c = let p = c.requires in (p.hold, p.area_fits)
@@ -50,4 +50,4 @@ pub returns : goal.returns
 returns c =
     let a = c.args in
     c.copy_rows.ensures
-    ∙ ap₂ (λ (x y : ℤ). raster a.side a.side (copied (packed a.samples.now a.size) x y)) (to_z-of_z w32 _ (fit-x (goal.at.returns c).Start)) (to_z-of_z w32 _ (fit-y (goal.at.returns c).Start))
+    ∙ ap₂ (λ (x y : ℤ). raster a.side a.side (copied (packed a.samples.now a.size) x y)) (to_z-of_z w32 _ (fit_x (goal.at.returns c).Start)) (to_z-of_z w32 _ (fit_y (goal.at.returns c).Start))

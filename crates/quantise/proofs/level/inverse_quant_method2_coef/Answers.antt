@@ -20,11 +20,11 @@ use Rattle.quantise.proofs.Signs.{minus_signed, minus_fits, minus_read, inverse_
 use Rattle.quantise.proofs.level.inverse_quant_method2_coef.Goals.{After-inverse_size-size, After-magnitude-l, Else-l-eq0, Start, Then-level-lt0}
 use Rattle.quantise.proofs.level.inverse_quant_method2_coef.Goals as goal
 
-level-is : (s : Start) → to_z w32 (of_z w32 s.args.level) ≡ s.args.level
-level-is s = to_z-of_z w32 s.args.level s.ranges.level
+level_is : (s : Start) → to_z w32 (of_z w32 s.args.level) ≡ s.args.level
+level_is s = to_z-of_z w32 s.args.level s.ranges.level
 
 l_is : (c : After-magnitude-l) → c.magnitude-l.result ≡ nat_abs c.args.level
-l_is c = c.magnitude-l.ensures ∙ ap nat_abs (level-is (goal.at.After-magnitude-l c).Start)
+l_is c = c.magnitude-l.ensures ∙ ap nat_abs (level_is (goal.at.After-magnitude-l c).Start)
 
 -- what the level stands for, in size
 size_is : (c : After-inverse_size-size) → let a = c.args in
@@ -59,7 +59,7 @@ returns-then-level-lt0 c =
     ∙ ap (cut_to (negsuc 2047) (pos 2047))
     (to_z-of_z w32 _ (overflow_sub-size (goal.at.returns-then-level-lt0 c).Then-level-lt0)
     ∙ minus_read c.inverse_size-size.result (size_most (goal.at.returns-then-level-lt0 c).After-inverse_size-size)
-    ∙ minus_signed c.args.level _ (sym (ap (λ (v : ℤ). lt_z v (pos 0)) (level-is (goal.at.returns-then-level-lt0 c).Start)) ∙ c.if-level-lt0.true)
+    ∙ minus_signed c.args.level _ (sym (ap (λ (v : ℤ). lt_z v (pos 0)) (level_is (goal.at.returns-then-level-lt0 c).Start)) ∙ c.if-level-lt0.true)
     ∙ ap (signed c.args.level) (size_is (goal.at.returns-then-level-lt0 c).After-inverse_size-size))
     ∙ sym (else _ _ _ (some (goal.at.returns-then-level-lt0 c).Else-l-eq0))
 
@@ -70,6 +70,6 @@ returns-else-level-lt0 c =
     ∙ c.clamp-else-level-lt0.ensures
     ∙ ap (cut_to (negsuc 2047) (pos 2047))
     (to_z_pos w32 c.inverse_size-size.result (omega (arith, size_most (goal.at.returns-else-level-lt0 c).After-inverse_size-size))
-    ∙ signed_above c.args.level _ (sym (ap (λ (v : ℤ). lt_z v (pos 0)) (level-is (goal.at.returns-else-level-lt0 c).Start)) ∙ c.if-level-lt0.false)
+    ∙ signed_above c.args.level _ (sym (ap (λ (v : ℤ). lt_z v (pos 0)) (level_is (goal.at.returns-else-level-lt0 c).Start)) ∙ c.if-level-lt0.false)
     ∙ ap (signed c.args.level) (size_is (goal.at.returns-else-level-lt0 c).After-inverse_size-size))
     ∙ sym (else _ _ _ (some (goal.at.returns-else-level-lt0 c).Else-l-eq0))

@@ -6,7 +6,7 @@ use lib.Dec.{lit<}
 use lib.ListN.{length}
 use Rattle.quarter_sample.specs.ToldPasses.{rows_at, columns_at, whole_at, both_at, place_at, block_source, PassNeeds}
 use Rattle.quarter_sample.proofs.Sixteen.{last_place}
-use Rattle.quarter_sample.proofs.Blocks.{place-by-steps, whole, across, down}
+use Rattle.quarter_sample.proofs.Blocks.{place_by_steps, whole, across, down}
 use Rattle.quarter_sample.proofs.passes.interpolate_place.Goals.{Start}
 use Rattle.quarter_sample.proofs.passes.interpolate_place.Goals as goal
 
@@ -16,7 +16,7 @@ rule : (s : Start) (fx fy : ℕ) {out : List ℕ} → fx < 4 → fy < 4 → let 
     → out ≡ place_at a.w a.h a.rc a.max a.fractions a.block.now
 rule s fx fy {out} p q e o =
     let a = s.args in
-    place-by-steps a.rc a.max a.w a.h fx fy a.fractions (block_source a.w a.h a.block.now) out p q e o
+    place_by_steps a.rc a.max a.w a.h fx fy a.fractions (block_source a.w a.h a.block.now) out p q e o
 
 -- one pass alone, and the copy, are two steps of which one or both stay
 module _ (s : Start) where

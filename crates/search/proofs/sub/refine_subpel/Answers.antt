@@ -13,7 +13,7 @@ use Rattle.full_search.specs.Costs.{consider, at_cost}
 use Rattle.search.specs.Range.{vector_in}
 use Rattle.search.specs.Sums.{vector_sum}
 use Rattle.search.specs.Sub.{ring, start}
-use Rattle.search.proofs.Refined.{half_kept, refine_half, refine_quarter, ring-best_in, start_in}
+use Rattle.search.proofs.Refined.{half_kept, refine_half, refine_quarter, ring_best_in, start_in}
 use Rattle.search.proofs.sub.refine_subpel.Goals.{After-half_best-half, Start}
 use Rattle.search.proofs.sub.refine_subpel.Goals as goal
 
@@ -46,7 +46,7 @@ ring_search-requires c =
     let t = c.args.settings in
     let s = (goal.at.ring_search-requires c).Start in
     let begun_at : vector_in t.fcode c.start-vector.result ≡ true = ap (vector_in t.fcode) c.start-vector.ensures ∙ begun_in s in
-    let kept_at : vector_in t.fcode c.half_best-half.result.vector ≡ true = ring-best_in (sum_of s) t.fcode (units_per_pel t.mode / 2) (begun s) c.half_best-half.result (half_is (goal.at.ring_search-requires c).After-half_best-half) (begun_in s) in
+    let kept_at : vector_in t.fcode c.half_best-half.result.vector ≡ true = ring_best_in (sum_of s) t.fcode (units_per_pel t.mode / 2) (begun s) c.half_best-half.result (half_is (goal.at.ring_search-requires c).After-half_best-half) (begun_in s) in
     record { ready = c.requires.0; settings = c.requires.1; step_small = omega arith; centre_in = search rules }
 
 pub returns-in-HalfPel : goal.returns-in-HalfPel

@@ -15,8 +15,8 @@ use Rattle.search.proofs.sub.scaled.Goals as goal
 product_is : (s : Start) → to_z w32 (of_z w32 s.args.z) *ℤ to_z w32 s.args.units ≡ s.args.z *ℤ pos s.args.units
 product_is s = ap₂ ◌*ℤ◌ (to_z-of_z w32 s.args.z s.ranges.z) (to_z_pos w32 (omega arith))
 
-product-fits : (s : Start) → SFits w32 (s.args.z *ℤ pos s.args.units)
-product-fits s =
+product_fits : (s : Start) → SFits w32 (s.args.z *ℤ pos s.args.units)
+product_fits s =
     let z = s.args.z in
     let u = s.args.units in
     parts_fit (z *ℤ pos u)
@@ -24,7 +24,7 @@ product-fits s =
     (omega (arith, below-mul z u, product_le s.requires.1 s.requires.2))
 
 pub overflow_mul-result : goal.overflow_mul-result
-overflow_mul-result c = subst (SFits w32) (sym (product_is (goal.at.overflow_mul-result c).Start)) (product-fits (goal.at.overflow_mul-result c).Start)
+overflow_mul-result c = subst (SFits w32) (sym (product_is (goal.at.overflow_mul-result c).Start)) (product_fits (goal.at.overflow_mul-result c).Start)
 
 pub returns : goal.returns
-returns c = ap (λ (v : ℤ). to_z w32 (of_z w32 v)) (product_is (goal.at.returns c).Start) ∙ to_z-of_z w32 (c.args.z *ℤ pos c.args.units) (product-fits (goal.at.returns c).Start)
+returns c = ap (λ (v : ℤ). to_z w32 (of_z w32 v)) (product_is (goal.at.returns c).Start) ∙ to_z-of_z w32 (c.args.z *ℤ pos c.args.units) (product_fits (goal.at.returns c).Start)

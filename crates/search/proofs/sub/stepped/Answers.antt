@@ -35,11 +35,11 @@ module _ (s : Start) where
   sum_fits = parts_fit (z +ℤ pos on) (omega (arith, small, above-add z (pos on))) (omega (arith, small, below-add z (pos on)))
 
   -- what it takes away then
-  rest-is : to_z w32 (of_z w32 (to_z w32 (of_z w32 z) +ℤ to_z w32 on)) -ℤ to_z w32 step ≡ stepped z step s.args.k
-  rest-is = ap₂ ◌-ℤ◌ (ap (λ (v : ℤ). to_z w32 (of_z w32 v)) sum_is ∙ to_z-of_z w32 (z +ℤ pos on) sum_fits) (to_z_pos w32 step (omega arith))
+  rest_is : to_z w32 (of_z w32 (to_z w32 (of_z w32 z) +ℤ to_z w32 on)) -ℤ to_z w32 step ≡ stepped z step s.args.k
+  rest_is = ap₂ ◌-ℤ◌ (ap (λ (v : ℤ). to_z w32 (of_z w32 v)) sum_is ∙ to_z-of_z w32 (z +ℤ pos on) sum_fits) (to_z_pos w32 step (omega arith))
 
-  rest-fits : SFits w32 (stepped z step s.args.k)
-  rest-fits =
+  rest_fits : SFits w32 (stepped z step s.args.k)
+  rest_fits =
       parts_fit (stepped z step s.args.k)
       (omega (arith, small, above-add z (pos on), below-add z (pos on), above-sub (z +ℤ pos on) (pos step)))
       (omega (arith, small, above-add z (pos on), below-add z (pos on), below_sub (z +ℤ pos on) (pos step)))
@@ -54,7 +54,7 @@ pub overflow_add-result : goal.overflow_add-result
 overflow_add-result c = subst (SFits w32) (sym (sum_is (goal.at.overflow_add-result c).Start)) (sum_fits (goal.at.overflow_add-result c).Start)
 
 pub overflow_sub-result : goal.overflow_sub-result
-overflow_sub-result c = subst (SFits w32) (sym (rest-is (goal.at.overflow_sub-result c).Start)) (rest-fits (goal.at.overflow_sub-result c).Start)
+overflow_sub-result c = subst (SFits w32) (sym (rest_is (goal.at.overflow_sub-result c).Start)) (rest_fits (goal.at.overflow_sub-result c).Start)
 
 pub returns : goal.returns
-returns c = ap (λ (v : ℤ). to_z w32 (of_z w32 v)) (rest-is (goal.at.returns c).Start) ∙ to_z-of_z w32 (stepped c.args.z c.args.step c.args.k) (rest-fits (goal.at.returns c).Start)
+returns c = ap (λ (v : ℤ). to_z w32 (of_z w32 v)) (rest_is (goal.at.returns c).Start) ∙ to_z-of_z w32 (stepped c.args.z c.args.step c.args.k) (rest_fits (goal.at.returns c).Start)
