@@ -10,12 +10,7 @@ ghost use Rattle.predicting.specs.Chroma.{chroma_in};
 use prediction::PvopMbMotion;
 
 // Of one vector: 2, 8.
-pub fn hencouch_chroma_vector(
-    mode: u32,
-    mv_x: i32,
-    mv_y: i32,
-    vector: &mut [i32; 2],
-) -> u8
+pub fn hencouch_chroma_vector(mode: u32, mv_x: i32, mv_y: i32, vector: &mut [i32; 2]) -> u8
     ensures { let told = chroma_in mode (OneMv (vector_of mv_x mv_y)) in
         (result ≡ code_of told.reply) × (vector.new ≡ done told.reply (vector_area told.vector) vector.old) }
 {
@@ -25,11 +20,7 @@ pub fn hencouch_chroma_vector(
 }
 
 // Of four vectors, one for each 8 x 8 block: 2, 8.
-pub fn hencouch_chroma_vector_4mv(
-    mode: u32,
-    vectors: &[i32; 8],
-    vector: &mut [i32; 2],
-) -> u8
+pub fn hencouch_chroma_vector_4mv(mode: u32, vectors: &[i32; 8], vector: &mut [i32; 2]) -> u8
     ensures { let told = chroma_in mode (four_motion vectors.now) in
         (result ≡ code_of told.reply) × (vector.new ≡ done told.reply (vector_area told.vector) vector.old) }
 {

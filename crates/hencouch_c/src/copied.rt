@@ -47,7 +47,9 @@ pub extern "C" fn hencouch_copy_block(
         let block = copied_block (plane_of samples.now geometry) (point_of x y) block_w block_h in
         (result ≡ code_of reply) × (out.new ≡ done reply block out.old) }
 {
-    hencouch::copied::hencouch_copy_block(samples, width, height, stride, x, y, block_w, block_h, out)
+    hencouch::copied::hencouch_copy_block(
+        samples, width, height, stride, x, y, block_w, block_h, out,
+    )
 }
 
 // A macroblock's 16 x 16 luma samples: 6, 7, 8, 12.

@@ -52,7 +52,9 @@ pub extern "C" fn hencouch_macroblock_residual(
         let prediction = samples pred_y.now pred_cb.now pred_cr.now in
         (result ≡ code_of reply) × (out.new ≡ done reply (residual_of source prediction) out.old) }
 {
-    hencouch::inter::hencouch_macroblock_residual(y, cb, cr, width, height, column, row, pred_y, pred_cb, pred_cr, out)
+    hencouch::inter::hencouch_macroblock_residual(
+        y, cb, cr, width, height, column, row, pred_y, pred_cb, pred_cr, out,
+    )
 }
 
 // The events of a block's residual: 10, 11, 12, 13, 14. Any first_method but 0 is the first method.
@@ -77,7 +79,17 @@ pub extern "C" fn hencouch_quantise_inter_block(
         × (new ≡ done reply (block_areas by block) old)
         × (count.new ≡ done reply (count_of by block) count.old) }
 {
-    hencouch::inter::hencouch_quantise_inter_block(residual, quantiser, first_method, weights, scan, lasts, runs, levels, count)
+    hencouch::inter::hencouch_quantise_inter_block(
+        residual,
+        quantiser,
+        first_method,
+        weights,
+        scan,
+        lasts,
+        runs,
+        levels,
+        count,
+    )
 }
 
 // The events of all six blocks, each in its own area: 10, 11, 12, 13, 14.
@@ -102,7 +114,17 @@ pub extern "C" fn hencouch_quantise_inter_residual(
         × (new ≡ done reply (areas_of by all) old)
         × (counts.new ≡ done reply (counts_of by all) counts.old) }
 {
-    hencouch::inter::hencouch_quantise_inter_residual(residual, quantiser, first_method, weights, scan, lasts, runs, levels, counts)
+    hencouch::inter::hencouch_quantise_inter_residual(
+        residual,
+        quantiser,
+        first_method,
+        weights,
+        scan,
+        lasts,
+        runs,
+        levels,
+        counts,
+    )
 }
 
 // Which of six blocks have an event: the luma pattern, then the chroma pattern. Never refused.

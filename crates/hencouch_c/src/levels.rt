@@ -8,8 +8,6 @@ ghost use Rattle.scan.specs.Grid.{grid_of, inter_scan, scanned, unscanned};
 ghost use Rattle.scan.specs.Reply.{scan_reply, events_reply};
 ghost use Rattle.areas.specs.Numbers.{is_set};
 
-
-
 // 10, 11, 12, 13. Any first_method but 0 is the first method.
 #[unsafe(no_mangle)]
 pub extern "C" fn hencouch_quantise_block(

@@ -36,7 +36,10 @@ pub extern "C" fn hencouch_estimate_motion(
         × (vector.new ≡ done reply (vector_area found.vector) vector.old)
         × (sum.new ≡ done reply (found.sum ∷ []) sum.old) }
 {
-    hencouch::motion::hencouch_estimate_motion(source, width, height, column, row, reference, ref_width, ref_height, stride, mode, bpp, fcode, vector, sum)
+    hencouch::motion::hencouch_estimate_motion(
+        source, width, height, column, row, reference, ref_width, ref_height, stride, mode, bpp,
+        fcode, vector, sum,
+    )
 }
 
 // Four vectors around a seed and their sums: 1, 2, 3, 4, 5, 6, 7, 8, 9, 12.
@@ -67,5 +70,8 @@ pub extern "C" fn hencouch_estimate_motion_4mv(
         × (vectors.new ≡ done reply (vectors_area found.vectors) vectors.old)
         × (sums.new ≡ done reply found.sums sums.old) }
 {
-    hencouch::motion::hencouch_estimate_motion_4mv(source, width, height, column, row, reference, ref_width, ref_height, stride, mode, bpp, fcode, seed_x, seed_y, vectors, sums)
+    hencouch::motion::hencouch_estimate_motion_4mv(
+        source, width, height, column, row, reference, ref_width, ref_height, stride, mode, bpp,
+        fcode, seed_x, seed_y, vectors, sums,
+    )
 }

@@ -38,7 +38,22 @@ pub extern "C" fn hencouch_predict_luma_block(
         let block = predicted_block (mode_of mode bits_per_pixel) (plane_of samples.now geometry) site rounding vector in
         (result ≡ code_of reply) × (out.new ≡ done reply block out.old) }
 {
-    hencouch::predicted::hencouch_predict_luma_block(samples, width, height, stride, mode, bits_per_pixel, mv_x, mv_y, origin_x, origin_y, block_w, block_h, rounding, out)
+    hencouch::predicted::hencouch_predict_luma_block(
+        samples,
+        width,
+        height,
+        stride,
+        mode,
+        bits_per_pixel,
+        mv_x,
+        mv_y,
+        origin_x,
+        origin_y,
+        block_w,
+        block_h,
+        rounding,
+        out,
+    )
 }
 
 // The luma of a macroblock by one vector: 2, 3, 4, 5, 8, 12, 31.
@@ -64,7 +79,20 @@ pub extern "C" fn hencouch_predict_luma_macroblock(
         let luma = macroblock_luma (mode_of mode bits_per_pixel) (plane_of samples.now geometry) motion corner rounding in
         (result ≡ code_of reply) × (out.new ≡ done reply luma out.old) }
 {
-    hencouch::predicted::hencouch_predict_luma_macroblock(samples, width, height, stride, mode, bits_per_pixel, mv_x, mv_y, origin_x, origin_y, rounding, out)
+    hencouch::predicted::hencouch_predict_luma_macroblock(
+        samples,
+        width,
+        height,
+        stride,
+        mode,
+        bits_per_pixel,
+        mv_x,
+        mv_y,
+        origin_x,
+        origin_y,
+        rounding,
+        out,
+    )
 }
 
 // The same by four vectors, one for each 8 x 8 block: 2, 3, 4, 5, 8, 12, 31.
@@ -89,5 +117,17 @@ pub extern "C" fn hencouch_predict_luma_macroblock_4mv(
         let luma = macroblock_luma (mode_of mode bits_per_pixel) (plane_of samples.now geometry) motion corner rounding in
         (result ≡ code_of reply) × (out.new ≡ done reply luma out.old) }
 {
-    hencouch::predicted::hencouch_predict_luma_macroblock_4mv(samples, width, height, stride, mode, bits_per_pixel, vectors, origin_x, origin_y, rounding, out)
+    hencouch::predicted::hencouch_predict_luma_macroblock_4mv(
+        samples,
+        width,
+        height,
+        stride,
+        mode,
+        bits_per_pixel,
+        vectors,
+        origin_x,
+        origin_y,
+        rounding,
+        out,
+    )
 }

@@ -85,7 +85,38 @@ pub extern "C" fn hencouch_step(
         × (areas lasts.new runs.new levels.new ≡ told.answer.areas)
         × (new ≡ done coded.reply (record_areas_of coded.«record») old) }
 {
-    hencouch::run::hencouch_step(run, fcode, mode, bpp, quantiser, first_method, vectors, scan, reference, ref_width, ref_height, stride, y, cb, cr, width, height, weights, pred_y, pred_cb, pred_cr, lasts, runs, levels, vector, sum, four_vectors, four_sums, patterns, counts)
+    hencouch::run::hencouch_step(
+        run,
+        fcode,
+        mode,
+        bpp,
+        quantiser,
+        first_method,
+        vectors,
+        scan,
+        reference,
+        ref_width,
+        ref_height,
+        stride,
+        y,
+        cb,
+        cr,
+        width,
+        height,
+        weights,
+        pred_y,
+        pred_cb,
+        pred_cr,
+        lasts,
+        runs,
+        levels,
+        vector,
+        sum,
+        four_vectors,
+        four_sums,
+        patterns,
+        counts,
+    )
 }
 
 // Searches for the run's next macroblock, predicts it by the vectors found and codes it: 21, 22, then 1, 2, 3, 4, 5, 6, 7, 10, 11, 12, 14, 31. Any first_method but 0 is the first method.
@@ -140,7 +171,39 @@ pub extern "C" fn hencouch_step_predicted(
         × (areas lasts.new runs.new levels.new ≡ told.answer.areas)
         × (new ≡ done coded.reply (record_areas_of coded.«record») old) }
 {
-    hencouch::run::hencouch_step_predicted(run, fcode, mode, bpp, quantiser, first_method, vectors, scan, rounding, ref_y, ref_cb, ref_cr, ref_width, ref_height, stride, chroma_stride, y, cb, cr, width, height, weights, lasts, runs, levels, vector, sum, four_vectors, four_sums, patterns, counts)
+    hencouch::run::hencouch_step_predicted(
+        run,
+        fcode,
+        mode,
+        bpp,
+        quantiser,
+        first_method,
+        vectors,
+        scan,
+        rounding,
+        ref_y,
+        ref_cb,
+        ref_cr,
+        ref_width,
+        ref_height,
+        stride,
+        chroma_stride,
+        y,
+        cb,
+        cr,
+        width,
+        height,
+        weights,
+        lasts,
+        runs,
+        levels,
+        vector,
+        sum,
+        four_vectors,
+        four_sums,
+        patterns,
+        counts,
+    )
 }
 
 // The totals of a run that is at its end, macroblocks, events and sums: 23.

@@ -37,7 +37,10 @@ pub extern "C" fn hencouch_interpolate_block_into(
         let block = half_block (plane_of samples.now geometry) site vector rounding in
         (result ≡ code_of reply) × (out.new ≡ done reply block out.old) }
 {
-    hencouch::sample::hencouch_interpolate_block_into(samples, width, height, stride, mv_x, mv_y, origin_x, origin_y, block_w, block_h, rounding, out)
+    hencouch::sample::hencouch_interpolate_block_into(
+        samples, width, height, stride, mv_x, mv_y, origin_x, origin_y, block_w, block_h, rounding,
+        out,
+    )
 }
 
 // Quarter samples: 3, 4, 5, 8, 12, 14.
@@ -64,7 +67,21 @@ pub extern "C" fn hencouch_interpolate_block_qpel_into(
         let block = quarter_block (plane_of samples.now geometry) site vector rounding bits_per_pixel in
         (result ≡ code_of reply) × (out.new ≡ done reply block out.old) }
 {
-    hencouch::sample::hencouch_interpolate_block_qpel_into(samples, width, height, stride, mv_x, mv_y, origin_x, origin_y, block_w, block_h, rounding, bits_per_pixel, out)
+    hencouch::sample::hencouch_interpolate_block_qpel_into(
+        samples,
+        width,
+        height,
+        stride,
+        mv_x,
+        mv_y,
+        origin_x,
+        origin_y,
+        block_w,
+        block_h,
+        rounding,
+        bits_per_pixel,
+        out,
+    )
 }
 
 // One sample, a half to the right where half_x is not 0 and a half down where half_y is not 0. Never refused.

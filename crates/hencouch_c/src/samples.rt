@@ -44,7 +44,25 @@ pub extern "C" fn hencouch_predict_macroblock(
         let made = macroblock_prediction (mode_of mode bits_per_pixel) (planes_of reference geometry) motion place rounding in
         (result ≡ code_of reply) × (new ≡ done reply made old) }
 {
-    hencouch::samples::hencouch_predict_macroblock(ref_y, ref_cb, ref_cr, width, height, stride, chroma_stride, mode, bits_per_pixel, mv_x, mv_y, column, row, rounding, y, cb, cr)
+    hencouch::samples::hencouch_predict_macroblock(
+        ref_y,
+        ref_cb,
+        ref_cr,
+        width,
+        height,
+        stride,
+        chroma_stride,
+        mode,
+        bits_per_pixel,
+        mv_x,
+        mv_y,
+        column,
+        row,
+        rounding,
+        y,
+        cb,
+        cr,
+    )
 }
 
 // By four vectors, one for each 8 x 8 luma block: 2, 3, 4, 5, 8, 12, 31.
@@ -77,5 +95,22 @@ pub extern "C" fn hencouch_predict_macroblock_4mv(
         let made = macroblock_prediction (mode_of mode bits_per_pixel) (planes_of reference geometry) motion place rounding in
         (result ≡ code_of reply) × (new ≡ done reply made old) }
 {
-    hencouch::samples::hencouch_predict_macroblock_4mv(ref_y, ref_cb, ref_cr, width, height, stride, chroma_stride, mode, bits_per_pixel, vectors, column, row, rounding, y, cb, cr)
+    hencouch::samples::hencouch_predict_macroblock_4mv(
+        ref_y,
+        ref_cb,
+        ref_cr,
+        width,
+        height,
+        stride,
+        chroma_stride,
+        mode,
+        bits_per_pixel,
+        vectors,
+        column,
+        row,
+        rounding,
+        y,
+        cb,
+        cr,
+    )
 }

@@ -5,8 +5,6 @@ ghost use Rattle.refusal.specs.Reply.{done};
 ghost use Rattle.fdct.specs.Block.{coefficients};
 ghost use Rattle.fdct.specs.Reply.{dct_reply};
 
-
-
 // 12, 13.
 #[unsafe(no_mangle)]
 pub extern "C" fn hencouch_forward_dct_8x8(residual: &[i32], out: &mut [i32]) -> u8

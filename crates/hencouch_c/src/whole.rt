@@ -62,7 +62,39 @@ pub extern "C" fn hencouch_code_macroblock(
         × (areas lasts.new runs.new levels.new ≡ (answer_of q).areas)
         × (new ≡ done (replyOf q) (record_areas_of (record_of q)) old) }
 {
-    hencouch::whole::hencouch_code_macroblock(fcode, mode, bpp, quantiser, first_method, vectors, scan, reference, ref_width, ref_height, stride, y, cb, cr, width, height, column, row, weights, pred_y, pred_cb, pred_cr, lasts, runs, levels, vector, sum, four_vectors, four_sums, patterns, counts)
+    hencouch::whole::hencouch_code_macroblock(
+        fcode,
+        mode,
+        bpp,
+        quantiser,
+        first_method,
+        vectors,
+        scan,
+        reference,
+        ref_width,
+        ref_height,
+        stride,
+        y,
+        cb,
+        cr,
+        width,
+        height,
+        column,
+        row,
+        weights,
+        pred_y,
+        pred_cb,
+        pred_cr,
+        lasts,
+        runs,
+        levels,
+        vector,
+        sum,
+        four_vectors,
+        four_sums,
+        patterns,
+        counts,
+    )
 }
 
 // Searches for a macroblock, predicts it by the vectors found and codes it: 1, 2, 3, 4, 5, 6, 7, 8, 10, 11, 12, 14, 31. Any first_method but 0 is the first method.
@@ -114,5 +146,38 @@ pub extern "C" fn hencouch_code_predicted_macroblock(
         × (areas lasts.new runs.new levels.new ≡ (predicted_answer_of n).areas)
         × (new ≡ done (predicted_reply_of n) (record_areas_of (record_of (predicting n))) old) }
 {
-    hencouch::whole::hencouch_code_predicted_macroblock(fcode, mode, bpp, quantiser, first_method, vectors, scan, rounding, ref_y, ref_cb, ref_cr, ref_width, ref_height, stride, chroma_stride, y, cb, cr, width, height, column, row, weights, lasts, runs, levels, vector, sum, four_vectors, four_sums, patterns, counts)
+    hencouch::whole::hencouch_code_predicted_macroblock(
+        fcode,
+        mode,
+        bpp,
+        quantiser,
+        first_method,
+        vectors,
+        scan,
+        rounding,
+        ref_y,
+        ref_cb,
+        ref_cr,
+        ref_width,
+        ref_height,
+        stride,
+        chroma_stride,
+        y,
+        cb,
+        cr,
+        width,
+        height,
+        column,
+        row,
+        weights,
+        lasts,
+        runs,
+        levels,
+        vector,
+        sum,
+        four_vectors,
+        four_sums,
+        patterns,
+        counts,
+    )
 }
