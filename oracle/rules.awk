@@ -77,7 +77,8 @@ kind == "src" {
         name = substr($0, RSTART, RLENGTH)
         sub(/.* /, "", name)
         defined[FILENAME " " name] = 1
-        if ($0 ~ /^pub extern/)
+        # An entry has one row, under the name that C links it by.
+        if ($0 ~ /^pub / && name ~ /^hencouch_/)
             entries[name] = 1
         else if ($0 ~ /^pub fn/)
             functions[crate (module == "" ? "" : "::" module) "::" name] = module == "" ? "" : crate "::" module

@@ -33,11 +33,11 @@ abbrev pub row_by_row : ℕ → List ℕ → ℕ → ℕ → ℕ
 row_by_row side samples i j = get_or samples (j * side + i) 0
 
 -- the block of these source samples at a corner of this reference
-abbrev pub blockIn : ℕ → List ℕ → Plane → Point → Block
-blockIn side source p corner = record { side = side; source = row_by_row side source; reference = p; corner = corner }
+abbrev pub block_in : ℕ → List ℕ → Plane → Point → Block
+block_in side source p corner = record { side = side; source = row_by_row side source; reference = p; corner = corner }
 
 abbrev pub block_of : List ℕ → List ℕ → Target → Block
-block_of source samples t = blockIn t.side source (plane_of samples t.geometry) t.corner
+block_of source samples t = block_in t.side source (plane_of samples t.geometry) t.corner
 
 -- its sum at a displacement by whole samples, from the reference's own samples
 unfoldable pub copied_sum : Block → MotionVector → ℕ

@@ -10,7 +10,7 @@ use Rattle.full_search.specs.declared.Lines.{Lines}
 use Rattle.full_search.specs.declared.Row.{Row}
 use Rattle.full_search.specs.declared.Scored.{Scored}
 use Rattle.full_search.specs.declared.Target.{Target}
-use Rattle.full_search.specs.Block.{blockIn}
+use Rattle.full_search.specs.Block.{block_in}
 use Rattle.full_search.specs.Costs.{zero_discount, at_cost}
 use Rattle.full_search.specs.Places.{right, distance, row_place}
 use Rattle.full_search.specs.Full.{near_square, near_rows}
@@ -82,9 +82,9 @@ row_columns side r = r.step * (r.count - 1) + side
 pub record KeptOn (side : ℕ) (source patch : List ℕ) (at : Lines) (columns : ℕ) (from : MotionVector) (discount : ℕ)
     (l : List MotionVector) (s r : Scored) : Type 0 where
   pub kept : (p : Plane) (corner : Point) → Shown side p corner from patch at columns
-      → NoMoreThanZero (copied_cost discount (blockIn side source p corner)) s
-      → (r ≡ kept_of (copied_cost discount (blockIn side source p corner)) s l)
-      × NoMoreThanZero (copied_cost discount (blockIn side source p corner)) r
+      → NoMoreThanZero (copied_cost discount (block_in side source p corner)) s
+      → (r ≡ kept_of (copied_cost discount (block_in side source p corner)) s l)
+      × NoMoreThanZero (copied_cost discount (block_in side source p corner)) r
 
 -- ---- the square of ±8, on a patch of 32 rows of 32 samples
 
@@ -94,8 +94,8 @@ NearPatch patch p corner = patch ≡ copied_block p (moved_to corner near_square
 
 -- whatever reference and place the patch is of: r is zero at its cost there
 pub record MiddleStart (source patch : List ℕ) (r : Scored) : Type 0 where
-  pub start : (p : Plane) (corner : Point) → NearPatch patch p corner → r ≡ at_cost (copied_cost zero_discount (blockIn 16 source p corner)) zero_vector
+  pub start : (p : Plane) (corner : Point) → NearPatch patch p corner → r ≡ at_cost (copied_cost zero_discount (block_in 16 source p corner)) zero_vector
 
 -- r is what a search from zero over the square keeps there
 pub record NearKept (source patch : List ℕ) (r : Scored) : Type 0 where
-  pub kept : (p : Plane) (corner : Point) → NearPatch patch p corner → r ≡ found (copied_cost zero_discount (blockIn 16 source p corner)) near_rows
+  pub kept : (p : Plane) (corner : Point) → NearPatch patch p corner → r ≡ found (copied_cost zero_discount (block_in 16 source p corner)) near_rows

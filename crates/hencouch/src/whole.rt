@@ -3,7 +3,7 @@ ghost use Rattle.std.specs.Prelude.{◌≡◌};
 ghost use Rattle.refusal.specs.Number.{code_of};
 ghost use Rattle.refusal.specs.Reply.{done};
 ghost use Rattle.reader.specs.Handed.{areas};
-ghost use Rattle.macroblock.specs.Request.{request, replyOf};
+ghost use Rattle.macroblock.specs.Request.{request, reply_of};
 ghost use Rattle.macroblock.specs.Answer.{answer_of, record_of};
 ghost use Rattle.macroblock.specs.Predicted.{predicted_request, predicted_reply_of, predicted_answer_of, predicting};
 ghost use Rattle.plane.specs.Plane.{geometry_of};
@@ -57,9 +57,9 @@ pub fn hencouch_code_macroblock(
         patterns.old counts.old in
         let new = record_areas vector.new sum.new four_vectors.new four_sums.new
         patterns.new counts.new in
-        (result ≡ code_of (replyOf q))
+        (result ≡ code_of (reply_of q))
         × (areas lasts.new runs.new levels.new ≡ (answer_of q).areas)
-        × (new ≡ done (replyOf q) (record_areas_of (record_of q)) old) }
+        × (new ≡ done (reply_of q) (record_areas_of (record_of q)) old) }
 {
     let settings = areas::numbers::settings_of(
         fcode,

@@ -12,7 +12,7 @@ use Rattle.reader.specs.Handed.{Areas, areas}
 use Rattle.coding.specs.Coding.{areas_of, counts_of, luma_pattern_of, chroma_pattern_of}
 use Rattle.macroblock.specs.declared.Coded.{Coded}
 use Rattle.macroblock.specs.declared.Searched.{Searched}
-use Rattle.macroblock.specs.Request.{Request, residual, search_in, sought_in, quantising_in, replyOf}
+use Rattle.macroblock.specs.Request.{Request, residual, search_in, sought_in, quantising_in, reply_of}
 
 -- the four and their sums, seeded by the one
 abbrev pub four_of : SearchSettings → Block → EstimatedFour
@@ -67,4 +67,4 @@ answer_by reply q =
     }
 
 abbrev pub answer_of : Request → Answer
-answer_of q = answer_by (replyOf q) q
+answer_of q = answer_by (reply_of q) q

@@ -124,5 +124,5 @@ lengths_of q =
       levels = length q.areas.levels;
     }
 
-abbrev pub replyOf : Request → Reply
-replyOf q = request_reply q.settings q.geometry q.size q.place q.weights (lengths_of q)
+abbrev pub reply_of : Request → Reply
+reply_of q = request_reply q.settings q.geometry q.size q.place q.weights (lengths_of q)

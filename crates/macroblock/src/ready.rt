@@ -7,7 +7,7 @@ ghost use Rattle.reader.specs.Handed.{areas};
 ghost use Rattle.plane.specs.Samples.{samples};
 ghost use Rattle.coding.specs.Residual.{source_of, residual_of};
 ghost use Rattle.coding.specs.Coding.{quantising_of, counts_of, areas_of};
-ghost use Rattle.macroblock.specs.Request.{request, residual, search_in, quantising_in, replyOf};
+ghost use Rattle.macroblock.specs.Request.{request, residual, search_in, quantising_in, reply_of};
 ghost use Rattle.macroblock.specs.Answer.{searched_of, record_with, record_of};
 ghost use Rattle.macroblock.specs.Told.{CodingNeeds};
 
@@ -151,7 +151,7 @@ pub fn code_ready(
 ) -> Record
     requires { let q = request settings reference.now geometry y.now cb.now cr.now size place weights.now
         pred_y.now pred_cb.now pred_cr.now lasts.old runs.old levels.old in
-        replyOf q ≡ Done }
+        reply_of q ≡ Done }
     ensures { let q = request settings reference.now geometry y.now cb.now cr.now size place
         weights.now pred_y.now pred_cb.now pred_cr.now
         lasts.old runs.old levels.old in

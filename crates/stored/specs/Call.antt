@@ -7,8 +7,8 @@ use Rattle.std.proofs.Common.{to_z}
 abbrev pub slot_at : ℕ → ℕ
 slot_at k = 6 + 8 * k
 
-abbrev pub replyAt : List ℕ → ℕ
-replyAt l = get_or l 1 0
+abbrev pub reply_at : List ℕ → ℕ
+reply_at l = get_or l 1 0
 
 unfoldable pub word_at : List ℕ → ℕ → ℕ
 word_at l at = ((get_or l at 0 * 256 + get_or l (at + 1) 0) * 256 + get_or l (at + 2) 0) * 256 + get_or l (at + 3) 0

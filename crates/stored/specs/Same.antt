@@ -2,7 +2,7 @@
 -- 0xa5 that every lent area is full of before its call.
 use Rattle.std.specs.Prelude.{ℕ, zero, suc, ◌+◌, ◌*◌, Bool, cond, ◌&&◌, List, eqb, leb, ltb, ℤ, pos, negsuc, length, get_or}
 use Rattle.refusal.specs.Test.{in_range}
-use Rattle.stored.specs.Call.{replyAt, word_at, long_at, signed_at, position_of, count_of}
+use Rattle.stored.specs.Call.{reply_at, word_at, long_at, signed_at, position_of, count_of}
 
 -- start, and what p says of each number below n
 unfoldable pub up_to : Bool → (ℕ → Bool) → ℕ → Bool
@@ -10,7 +10,7 @@ up_to start p zero = start
 up_to start p (suc n) = up_to start p n && p n
 
 unfoldable pub answered_of : List ℕ → ℕ → ℕ
-answered_of l k = cond (eqb (replyAt l) 0) (count_of l k) 0
+answered_of l k = cond (eqb (reply_at l) 0) (count_of l k) 0
 
 -- element i of an area whose answer of n elements stands at p
 abbrev pub wanted_byte : List ℕ → ℕ → ℕ → ℕ → ℕ

@@ -4,7 +4,7 @@
 
 ghost use Rattle.std.specs.Prelude.{◌≡◌, ◌&&◌, ◌+◌, ◌*◌, eqb, get_or, take};
 ghost use Rattle.basis.specs.Lists.{tabulate};
-ghost use Rattle.stored.specs.Call.{slot_at, replyAt, word_at, long_at, signed_at, position_of, count_of, area_of};
+ghost use Rattle.stored.specs.Call.{slot_at, reply_at, word_at, long_at, signed_at, position_of, count_of, area_of};
 ghost use Rattle.stored.specs.Same.{bytes_same, words_same, longs_same, signeds_same};
 
 mod areas;
@@ -27,7 +27,7 @@ pub fn entry(call: &[u8]) -> u8
 
 // What the call is to reply: 0, or a refusal's number.
 pub fn reply(call: &[u8]) -> u8
-    ensures { result ≡ replyAt call.now }
+    ensures { result ≡ reply_at call.now }
 {
     read::byte_at(call, 1)
 }
@@ -137,7 +137,7 @@ pub fn first(all: &[u8], n: usize) -> &[u8]
 
 // Whether a call's reply and its areas are the stored ones.
 pub fn same(call: &[u8], got: u8, areas: bool) -> bool
-    ensures { result ≡ (eqb got (replyAt call.now) && areas) }
+    ensures { result ≡ (eqb got (reply_at call.now) && areas) }
 {
     refusal::both(got == reply(call), areas)
 }
