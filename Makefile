@@ -74,7 +74,9 @@ BENCH_LIBDIR := $(LIBDIR)
 BENCH_NEEDS := machine-code $(LIBRARY) $(BROODLINE)
 else
 TIMED := $(or $(ROWS_OF_$(ONLY)),$(filter $(ONLY),$(ROWS)))
-BENCH_LIBDIR := target/only/$(TIMED)/target/staticlib
+BENCH_LIBDIR := target/only/$(TIMED)
+# Outside the checkout, since rt ci wants no other crates in it.
+ONLY_REPOSITORY := $(or $(TMPDIR),/tmp)/hencouch-only/$(TIMED)
 BENCH_NEEDS := only $(if $(filter broodline,$(TIMED)),$(BROODLINE))
 endif
 
@@ -214,8 +216,10 @@ bench: originals $(BENCH_NEEDS)
 # A library of the entries that these rows call, in a repository of its own: see only.sh.
 only:
 	$(if $(TIMED),,$(error ONLY=$(ONLY) has no rows: one of $(ROWS) quantise scan full_search picture clip play))
-	sh oracle/only/only.sh target/only/$(TIMED) '$(CRATES_$(TIMED))' '$(ENTRIES_$(TIMED))'
-	cd target/only/$(TIMED) && rt staticlib hencouch
+	sh oracle/only/only.sh $(ONLY_REPOSITORY) '$(CRATES_$(TIMED))' '$(ENTRIES_$(TIMED))'
+	cd $(ONLY_REPOSITORY)/crates/hencouch && rt lib
+	mkdir -p $(BENCH_LIBDIR)
+	cp $(ONLY_REPOSITORY)/crates/hencouch/out/libhencouch.a $(BENCH_LIBDIR)
 	$(if $(filter search macroblock broodline,$(TIMED)),@objdump -d $(BENCH_LIBDIR)/libhencouch.a | $(COUNT_PSADBW))
 
 # The sum of a block's differences is fast only while the compiler finds psadbw for it, which a

@@ -4,10 +4,19 @@
 
 FNR == 1 { name = "" }
 
+# One line for each name that a line brings.
 /^use / {
     crate = $2
-    sub(/::.*/, "", crate)
-    if (!($0 in used)) { used[$0] = crate; uses[++use_count] = $0 }
+    sub(/(::|;).*/, "", crate)
+    path = $0
+    sub(/^use /, "", path)
+    sub(/;.*/, "", path)
+    brought = split(path, parts, /[{},]+ */)
+    for (k = 1; k <= brought; k++) {
+        one = brought == 1 ? parts[1] : k == 1 || parts[k] == "" ? "" : parts[1] parts[k]
+        line = "use " one ";"
+        if (one != "" && !(line in used)) { used[line] = crate; uses[++use_count] = line }
+    }
 }
 
 /^#\[/ { mark = $0; next }
@@ -24,10 +33,12 @@ FNR == 1 { name = "" }
 }
 
 name != "" {
-    if ($0 ~ /^    (ensures|requires|decreases)/) contract = 1
+    if ($0 ~ /^    (ensures|requires)/) contract = 1
     if ($0 ~ /^\{/) contract = 0
     line = $0
     gsub(/(crate|areas|predicting)::([a-z_]+::)?/, "", line)
+    # the library's entries are exported by another crate, and here by this one
+    sub(/^pub fn hencouch_/, "#[unsafe(no_mangle)]\npub extern \"C\" fn hencouch_", line)
     if (!contract) text[name] = text[name] line "\n"
     if ($0 ~ /^\}/ || $0 ~ /^[^ ].*;$/) name = ""
 }

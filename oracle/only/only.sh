@@ -1,9 +1,8 @@
 #!/bin/sh
-# only.sh FOLDER "CRATES" "ENTRIES": a repository in FOLDER, below target/, that has these crates,
-# what they depend on, and of the library for C these entries alone. The crates are links, and so are
-# the folders of what is proved: what was proved here or there is proved in both. The entries are the
-# library's own, without their contracts: so they need none of its definitions and proofs, and the
-# prover shows of them that they call what is promised for all input and reach past no area.
+# only.sh FOLDER "CRATES" "ENTRIES": a repository in FOLDER, outside this one, that has these crates,
+# what they depend on, and of the library for C these entries alone. The entries are the library's own,
+# without their contracts: so they need none of its definitions and proofs, and the prover shows of them
+# that they call what is promised for all input and reach past no area.
 set -eu
 folder=$1 crates=$2 entries=$3
 
@@ -25,16 +24,18 @@ reached=$(WANTED="$crates" awk '
         for (k = 1; k <= count; k++) if (seen[list[k]]) print list[k]
     }' crates.txt)
 
-mkdir -p target/rlib target/stamp
-rm -rf "$folder/crates" "$folder/crates.txt"
-mkdir -p "$folder/crates/hencouch/src" "$folder/target"
-root=$(pwd -P)
-for part in rlib stamp; do ln -sfn "$root/target/$part" "$folder/target/$part"; done
+# With what checks kept of the crates, so that only what changed is proved.
+rm -rf "$folder"
+mkdir -p "$folder/crates/hencouch/src"
 for name in $reached; do
-    ln -s "$root/crates/$name" "$folder/crates/$name"
+    cp -R "crates/$name" "$folder/crates/$name"
     grep "^$name:" crates.txt >>"$folder/crates.txt"
 done
-echo "hencouch:" $reached >>"$folder/crates.txt"
+echo "hencouch staticlib:" $reached >>"$folder/crates.txt"
+: >"$folder/.git"
 
-ENTRIES="$entries" CRATES=$(echo $reached) awk -f oracle/only/entries.awk \
-    oracle/only/areas.txt crates/areas/src/*.rt crates/predicting/src/*.rt crates/hencouch/src/*.rt >"$folder/crates/hencouch/src/lib.rt"
+{
+    echo '#![tactic(auto)]'
+    ENTRIES="$entries" CRATES=$(echo $reached) awk -f oracle/only/entries.awk \
+        oracle/only/areas.txt crates/areas/src/*.rt crates/predicting/src/*.rt crates/hencouch/src/*.rt
+} >"$folder/crates/hencouch/src/lib.rt"

@@ -1,6 +1,8 @@
 // Stored calls of the entries for samples, blocks, levels, events and a macroblock's prediction, each made again: whether the reply and
 // all that was lent are the stored ones. Every lent area is full of the bytes 0xa5 before its call, and has room past its end, which has
 // to stay so.
+#![tactic(auto)]
+
 mod chroma;
 mod levels;
 mod luma;

@@ -1,5 +1,7 @@
 // Stored calls of the entries for searches and for the parts of a macroblock, each made again: whether the reply and all that was lent
 // are the stored ones. Every lent area is full of the bytes 0xa5 before its call, and has room past its end, which has to stay so.
+#![tactic(auto)]
+
 mod inter;
 mod motion;
 

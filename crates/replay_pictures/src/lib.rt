@@ -1,6 +1,8 @@
 // Stored calls of the entries that search for a macroblock and code it, and of a picture's run, each made again: whether the reply and
 // all that was lent are the stored ones. Every lent area is full of the bytes 0xa5 before its call, and has room past its end, which has
 // to stay so.
+#![tactic(auto)]
+
 mod predicted;
 mod run;
 mod whole;
