@@ -20,7 +20,7 @@ DECLARED = re.compile(
 )
 CAMEL = re.compile(r"(?<=[a-z0-9])(?=[A-Z])")
 # A goal of a function, as a proof file names its answer.
-ANSWER = re.compile(r": tie\.(?:Need-|invariant-|decreases-|Start\b)|: \{M : Type 1\} → statement")
+ANSWER = re.compile(r": tie\.(?:Need-|invariant-|decreases-)|: \{M : Type 1\} → statement")
 # Names of the library that lemmas are named after.
 LIBRARY = set(
     "add sub mul div mod neg pos negsuc shr suc length take drop set get_or map append foldl fold replicate reverse "
