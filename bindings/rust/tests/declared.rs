@@ -48,7 +48,7 @@ fn in_raw() -> Vec<Declared> {
 
 /// As the library's own functions have them, which call the bits per pixel `bpp`.
 fn in_library() -> BTreeMap<String, String> {
-    let folder = Path::new(REPOSITORY).join("crates/hencouch/src");
+    let folder = Path::new(REPOSITORY).join("crates/hencouch_c/src");
     let mut all = BTreeMap::new();
     for file in read_dir(&folder).expect("the library's source") {
         let source = text(file.expect("a file").path());

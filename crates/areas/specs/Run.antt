@@ -5,7 +5,7 @@ use Rattle.picture.specs.declared.Run.{Run}
 use Rattle.picture.specs.declared.Totals.{Totals}
 use Rattle.areas.specs.Numbers.{size_of}
 
--- width, height, macroblocks given, their events, their one_vector_lem sums; any five numbers are a run
+-- width, height, macroblocks given, their events, their one-vector sums; any five numbers are a run
 abbrev pub run_of : List ℕ → Run
 run_of l = record { size = size_of (get_or l 0 0) (get_or l 1 0); macroblocks = get_or l 2 0; events = get_or l 3 0; sums = get_or l 4 0 }
 

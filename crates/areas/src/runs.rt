@@ -1,4 +1,4 @@
-// A picture's run as the numbers that C keeps: width, height, macroblocks given, their events, their one_vector_lem sums.
+// A picture's run as the numbers that C keeps: width, height, macroblocks given, their events, their one-vector sums.
 ghost use Rattle.std.specs.Prelude.{◌≡◌};
 ghost use Rattle.refusal.specs.Number.{code_of};
 ghost use Rattle.refusal.specs.Reply.{done};

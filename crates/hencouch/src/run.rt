@@ -1,5 +1,5 @@
 // The picture run: a picture's macroblocks one after the other. A run is five numbers: width, height, macroblocks given, their events,
-// their one_vector_lem sums.
+// their one-vector sums.
 ghost use Rattle.std.specs.Prelude.{◌≡◌};
 ghost use Rattle.refusal.specs.Number.{code_of};
 ghost use Rattle.refusal.specs.Reply.{done};

@@ -15,7 +15,7 @@ use prediction::ReferenceGeometry;
 use record::Record;
 use refusal::{Refusal, Reply};
 
-// The sizes at opening; how many records were given, which is the next macroblock's place; their events and one_vector_lem sums.
+// The sizes at opening; how many records were given, which is the next macroblock's place; their events and one-vector sums.
 #[derive(Clone, Copy)]
 pub struct Run {
     pub size: SourceSize,
