@@ -49,8 +49,8 @@ fn carried(t: f64, x: f64) -> f64
 
 // To the nearest, a half upward. Adding a half to x itself would round; to a whole number it does not.
 fn nearest_up(x: f64) -> i32
-    requires t { T (Ieee.le zero_double x) }
-    requires t_2 { T (Ieee.lt x (fin false 1 (pos 12))) }
+    requires at_least_zero { T (Ieee.le zero_double x) }
+    requires below_4096 { T (Ieee.lt x (fin false 1 (pos 12))) }
     ensures { result ≡ pos (rounded_size x) }
 {
     let t = rested(x);

@@ -157,7 +157,7 @@ pub fn filter_taps(
     max: u8,
     out: &mut [u8],
 )
-    requires fraction_nonzero { (0 < fraction) × (fraction < 4) × (rc ≤ 1) }
+    requires fraction_bound { (0 < fraction) × (fraction < 4) × (rc ≤ 1) }
     requires taps_fit { TapsFit t0.now t1.now t2.now t3.now t4.now t5.now t6.now t7.now (length out.old) }
     ensures { out.new ≡ tabulate (length out.old)
         (mix_rows rc max fraction t0.now t1.now t2.now t3.now

@@ -52,8 +52,8 @@ struct Start {
 }
 
 fn start_of(corner: Point, vector: MotionVector) -> Start
-    requires x_value { (in_range (negsuc 4095) (pos 4096) corner.x ≡ true) × (in_range (negsuc 4095) (pos 4096) corner.y ≡ true) }
-    requires x_value_2 { (in_range (negsuc 2047) (pos 2047) vector.x ≡ true) × (in_range (negsuc 2047) (pos 2047) vector.y ≡ true) }
+    requires corner_small { (in_range (negsuc 4095) (pos 4096) corner.x ≡ true) × (in_range (negsuc 4095) (pos 4096) corner.y ≡ true) }
+    requires vector_small { (in_range (negsuc 2047) (pos 2047) vector.x ≡ true) × (in_range (negsuc 2047) (pos 2047) vector.y ≡ true) }
     ensures { result ≡ start_of corner vector }
 {
     let across = split_quarter_pel(vector.x);

@@ -112,7 +112,7 @@ fn scan_ready(levels: &[i32], scan: u32, out: &mut [i32])
 pub fn forward_scan(levels: &[i32], scan: u32, out: &mut [i32]) -> Reply
     ensures value { result ≡ scan_reply levels.now scan (length out.old) }
     ensures out_after { out.new ≡ done result (scanned (grid_of scan) levels.now) out.old }
-    ensures out_after_2 { result ≡ Done → unscanned (grid_of scan) out.new ≡ levels.now }
+    ensures reads_back { result ≡ Done → unscanned (grid_of scan) out.new ≡ levels.now }
 {
     let reply = scan_reply(levels, scan, out.len());
     match reply {
@@ -139,7 +139,7 @@ fn inverse_ready(levels: &[i32], scan: u32, out: &mut [i32])
 pub fn inverse_scan(levels: &[i32], scan: u32, out: &mut [i32]) -> Reply
     ensures value { result ≡ scan_reply levels.now scan (length out.old) }
     ensures out_after { out.new ≡ done result (unscanned (grid_of scan) levels.now) out.old }
-    ensures out_after_2 { result ≡ Done → scanned (grid_of scan) out.new ≡ levels.now }
+    ensures reads_back { result ≡ Done → scanned (grid_of scan) out.new ≡ levels.now }
 {
     let reply = scan_reply(levels, scan, out.len());
     match reply {

@@ -139,7 +139,7 @@ pub fn estimate_motion(
     bpp: u32,
     fcode: u32,
 ) -> Estimated
-    ensures result_value { let q = search_request source.now size place reference.now geometry mode bpp fcode in
+    ensures value { let q = search_request source.now size place reference.now geometry mode bpp fcode in
         result ≡ estimate_motion q }
     ensures one_vector { let q = search_request source.now size place reference.now geometry mode bpp fcode in
         result.reply ≡ Done → OneVector (settings_in 0 q) (sought q) result.vector result.sum }
@@ -292,7 +292,7 @@ pub fn estimate_motion_4mv(
     fcode: u32,
     seed: MotionVector,
 ) -> EstimatedFour
-    ensures result_value { let q = search_request source.now size place reference.now geometry mode bpp fcode in
+    ensures value { let q = search_request source.now size place reference.now geometry mode bpp fcode in
         result ≡ estimate_four q seed }
     ensures four_vectors { let q = search_request source.now size place reference.now geometry mode bpp fcode in
         result.reply ≡ Done → FourVectors (settings_in 0 q) seed (sought q) result.vectors result.sums }

@@ -63,8 +63,8 @@ module _ (c : After-copy_block) where
 
 pub start_of-start-requires : goal.start_of-start-requires
 start_of-start-requires c = let r = ready (goal.at.start_of-start-requires c).Start in record {
-  x_value = (r.corner_x, r.corner_y);
-  x_value_2 = (r.vector_x, r.vector_y);
+  corner_small = (r.corner_x, r.corner_y);
+  vector_small = (r.vector_x, r.vector_y);
 }
 
 pub overflow_add-w : goal.overflow_add-w

@@ -50,10 +50,10 @@ sum_y c =
 
 -- and they fit
 fits_x : (s : Start) → SFits w32 (s.args.corner.x +ℤ (split_quarter s.args.vector.x).whole)
-fits_x s = moved_fits s.args.corner.x s.args.vector.x 4 s.requires.x_value.0 s.requires.x_value_2.0
+fits_x s = moved_fits s.args.corner.x s.args.vector.x 4 s.requires.corner_small.0 s.requires.vector_small.0
 
 fits_y : (s : Start) → SFits w32 (s.args.corner.y +ℤ (split_quarter s.args.vector.y).whole)
-fits_y s = moved_fits s.args.corner.y s.args.vector.y 4 s.requires.x_value.1 s.requires.x_value_2.1
+fits_y s = moved_fits s.args.corner.y s.args.vector.y 4 s.requires.corner_small.1 s.requires.vector_small.1
 
 -- the quarters, which are below 4
 quarters_x : (c : After-split_quarter_pel-across) → c.split_quarter_pel-across.result.fraction ≡ (split_quarter c.args.vector.x).fraction

@@ -21,7 +21,7 @@ pub returns-in-Refused : goal.returns-in-Refused
 returns-in-Refused c = record {
   value = sym c.in-Refused.is ∙ c.scan_reply-reply.ensures;
   out_after = refl;
-  out_after_2 = λ e. not_done _ e;
+  reads_back = λ e. not_done _ e;
 }
 
 pub returns-in-Done : goal.returns-in-Done
@@ -32,5 +32,5 @@ returns-in-Done c =
     record {
       value = sym (accepted (goal.at.returns-in-Done c).In-Done);
       out_after = put;
-      out_after_2 = λ _. ap (unscanned (grid_of a.scan)) put ∙ (returns_to a.scan).by_rows a.levels.now full;
+      reads_back = λ _. ap (unscanned (grid_of a.scan)) put ∙ (returns_to a.scan).by_rows a.levels.now full;
     }

@@ -48,14 +48,14 @@ pub returns-in-Refused : goal.returns-in-Refused
 returns-in-Refused c =
     let e = sym c.in-Refused.is ∙ c.search_reply-reply.ensures in
     record {
-      result_value = ap (refused c.in-Refused.why) c.zero_vector.ensures ∙ one_by (request_of (goal.at.returns-in-Refused c).Start) e;
+      value = ap (refused c.in-Refused.why) c.zero_vector.ensures ∙ one_by (request_of (goal.at.returns-in-Refused c).Start) e;
       one_vector = λ e. not_done _ e;
     }
 
 pub returns-in-Done : goal.returns-in-Done
 returns-in-Done c =
     let q = request_of (goal.at.returns-in-Done c).Start in record {
-      result_value = ap (estimated Done) (found (goal.at.returns-in-Done c).After-one_vector-best) ∙ one_by q (sym (done (goal.at.returns-in-Done c).In-Done));
+      value = ap (estimated Done) (found (goal.at.returns-in-Done c).After-one_vector-best) ∙ one_by q (sym (done (goal.at.returns-in-Done c).In-Done));
       one_vector = λ _.
           subst (λ (v : Scored). OneVector (settings_in 0 q) (sought q) v.vector v.cost) (sym (found (goal.at.returns-in-Done c).After-one_vector-best))
           (one_vector_lem (settings_in 0 q) (sought q));

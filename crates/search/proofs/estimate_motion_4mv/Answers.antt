@@ -56,7 +56,7 @@ pub returns-in-Refused : goal.returns-in-Refused
 returns-in-Refused c =
     let e = sym c.in-Refused.is ∙ c.four_reply-reply.ensures in
     record {
-      result_value = ap (refused c.in-Refused.why) c.zero_vector-zero.ensures ∙ four_by (request_of (goal.at.returns-in-Refused c).Start) c.args.seed e;
+      value = ap (refused c.in-Refused.why) c.zero_vector-zero.ensures ∙ four_by (request_of (goal.at.returns-in-Refused c).Start) c.args.seed e;
       four_vectors = λ e. not_done _ e;
     }
 
@@ -64,7 +64,7 @@ pub returns-in-Done : goal.returns-in-Done
 returns-in-Done c =
     let q = request_of (goal.at.returns-in-Done c).Start in
     let v = c.args.seed in record {
-      result_value = found (goal.at.returns-in-Done c).After-four_vectors ∙ four_by q v (sym (done (goal.at.returns-in-Done c).In-Done));
+      value = found (goal.at.returns-in-Done c).After-four_vectors ∙ four_by q v (sym (done (goal.at.returns-in-Done c).In-Done));
       four_vectors = λ _.
           subst (λ (f : EstimatedFour). FourVectors (settings_in 0 q) v (sought q) f.vectors f.sums) (sym (found (goal.at.returns-in-Done c).After-four_vectors))
           (four_vectors (settings_in 0 q) v (sought q));

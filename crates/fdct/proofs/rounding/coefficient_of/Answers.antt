@@ -31,7 +31,7 @@ nearest_up-requires c =
     let s = clamped _ _ _ z c.known.ensures c.at_most.ensures c.at_least-z.ensures in
     let e = c.size.ensures in record {
       t = subst T (sym (ap (λ (a : Float). le zero_double a) e ∙ sized_up z s.below_top)) tt;
-      t_2 = subst T (sym (ap (λ (a : Float). lt a top) e ∙ s.below_top)) tt;
+      below_4096 = subst T (sym (ap (λ (a : Float). lt a top) e ∙ s.below_top)) tt;
     }
 
 pub with_sign-requires : goal.with_sign-requires

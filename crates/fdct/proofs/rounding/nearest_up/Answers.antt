@@ -13,11 +13,11 @@ float_to_int-result c =
     let x = c.args.x in
     let t = c.rested-t.ensures in
     let sum = ap₂ (add binary64) t (c.carried.ensures ∙ ap (λ (r : Float). carried r x) t) in
-    subst (λ (y : Float). T (in_signed binary64 31 y)) (sym sum) (cast_is x c.requires.t c.requires.t_2).castable
+    subst (λ (y : Float). T (in_signed binary64 31 y)) (sym sum) (cast_is x c.requires.at_least_zero c.requires.below_4096).castable
 
 pub returns : goal.returns
 returns c =
     let x = c.args.x in
     let t = c.rested-t.ensures in
     let sum = ap₂ (add binary64) t (c.carried.ensures ∙ ap (λ (r : Float). carried r x) t) in
-    of_bits_lem _ (to_signed_in 31 _) ∙ ap (to_signed 31) sum ∙ (cast_is x c.requires.t c.requires.t_2).is
+    of_bits_lem _ (to_signed_in 31 _) ∙ ap (to_signed 31) sum ∙ (cast_is x c.requires.at_least_zero c.requires.below_4096).is

@@ -25,6 +25,6 @@ module _ (s : Start) where
 
 pub returns : goal.returns
 returns c =
-    let e = c.estimate_motion-found.ensures.result_value in
+    let e = c.estimate_motion-found.ensures.value in
     let o = c.write_one.ensures in
     (o.0 ∙ ap (λ (x : Estimated). code_of (reply_for (goal.at.returns c).Start x)) e, o.1 ∙ ap (vector_for (goal.at.returns c).Start) e, o.2 ∙ ap (sum_for (goal.at.returns c).Start) e)

@@ -38,7 +38,7 @@ abbrev start_at : After-estimate_motion-one → Start
 start_at c = (goal.at.After-estimate_motion-one c).Start
 
 one_is : (c : After-estimate_motion-one) → c.estimate_motion-one.result ≡ estimated Done (one_vector (settings_at (goal.at.After-estimate_motion-one c).Start) (block_at (goal.at.After-estimate_motion-one c).Start))
-one_is c = c.estimate_motion-one.ensures.result_value ∙ one_answered (asked_at (goal.at.After-estimate_motion-one c).Start) c.requires
+one_is c = c.estimate_motion-one.ensures.value ∙ one_answered (asked_at (goal.at.After-estimate_motion-one c).Start) c.requires
 
 -- the four around it
 abbrev one_at : After-estimate_motion_4mv-four → After-estimate_motion-one
@@ -48,7 +48,7 @@ four_is : (c : After-estimate_motion_4mv-four) → let s = start_at (goal.at.Aft
 four_is c =
     let seed = (one_vector (settings_at (goal.at.After-estimate_motion_4mv-four c).Start) (block_at (goal.at.After-estimate_motion_4mv-four c).Start)).vector in
     let inside = (one_vector_lem (settings_at (goal.at.After-estimate_motion_4mv-four c).Start) (block_at (goal.at.After-estimate_motion_4mv-four c).Start)).found.in_range_is in
-    c.estimate_motion_4mv-four.ensures.result_value
+    c.estimate_motion_4mv-four.ensures.value
     ∙ ap (estimate_four (asked_at (goal.at.After-estimate_motion_4mv-four c).Start)) (ap (λ (e : Estimated). e.vector) (one_is (goal.at.After-estimate_motion_4mv-four c).After-estimate_motion-one))
     ∙ four_answered (asked_at (goal.at.After-estimate_motion_4mv-four c).Start) seed (four_taken (asked_at (goal.at.After-estimate_motion_4mv-four c).Start) seed c.requires inside)
 

@@ -12,19 +12,19 @@ start c = (goal.at.After-slice_known-1 c).Start
 
 pub near_taps-requires : goal.near_taps-requires
 near_taps-requires c = record {
-  rc_bound = (c.requires.fraction_nonzero.2, c.requires.taps_fit.fits3);
+  rc_bound = (c.requires.fraction_bound.2, c.requires.taps_fit.fits3);
   taps_fit = c.requires.taps_fit;
 }
 
 pub half_taps-requires : goal.half_taps-requires
 half_taps-requires c = record {
-  rc_bound = c.requires.fraction_nonzero.2;
+  rc_bound = c.requires.fraction_bound.2;
   taps_fit = c.requires.taps_fit;
 }
 
 pub near_taps-requires-in_default : goal.near_taps-requires-in_default
 near_taps-requires-in_default c = record {
-  rc_bound = (c.requires.fraction_nonzero.2, c.requires.taps_fit.fits4);
+  rc_bound = (c.requires.fraction_bound.2, c.requires.taps_fit.fits4);
   taps_fit = c.requires.taps_fit;
 }
 
@@ -43,6 +43,6 @@ returns-in-2 c =
 pub returns-in_default : goal.returns-in_default
 returns-in_default c =
     let a = c.args in
-    let e : a.fraction ≡ 3 = omega (arith, c.requires.fraction_nonzero, c.in_default.in_default-own.rest) in
+    let e : a.fraction ≡ 3 = omega (arith, c.requires.fraction_bound, c.in_default.in_default-own.rest) in
     at_three_quarters a.rc a.max (length a.out.now) a.t0.now a.t1.now a.t2.now a.t3.now a.t4.now a.t5.now a.t6.now
     a.t7.now e c.near_taps-in_default.ensures

@@ -7,7 +7,7 @@ use Rattle.quarter_sample.proofs.passes.filter_spaced.Goals as goal
 pub filter_taps-requires : goal.filter_taps-requires
 filter_taps-requires c =
     record {
-      fraction_nonzero = (c.requires.some_fraction, c.requires.fraction_small, c.requires.rc_small);
+      fraction_bound = (c.requires.some_fraction, c.requires.fraction_small, c.requires.rc_small);
       taps_fit = taps_fit _ _ _ _ _ _ _ _ _ _ _ _ _ _ _ _ _ c.part.ensures c.part-2.ensures c.part-3.ensures c.part-4.ensures
           c.part-5.ensures c.part-6.ensures c.part-7.ensures c.part-8.ensures;
     }
