@@ -30,7 +30,7 @@ nearest_up-requires c =
     let z = c.at_least-z.result in
     let s = clamped _ _ _ z c.known.ensures c.at_most.ensures c.at_least-z.ensures in
     let e = c.size.ensures in record {
-      t = subst T (sym (ap (λ (a : Float). le zero_double a) e ∙ sized_up z s.below_top)) tt;
+      at_least_zero = subst T (sym (ap (λ (a : Float). le zero_double a) e ∙ sized_up z s.below_top)) tt;
       below_4096 = subst T (sym (ap (λ (a : Float). lt a top) e ∙ s.below_top)) tt;
     }
 
