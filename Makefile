@@ -123,8 +123,8 @@ run:
 	@if test -x $(BROODLINE); then \
 	  $(BROODLINE) < crates/broodline/stdin > target/run/lines; \
 	else \
-	  { cd crates/broodline && rt try < stdin > ../../target/run/lines 2> ../../target/run/tried; } || { cat target/run/tried; exit 1; }; \
-	  cd ../.. && diff crates/broodline/stdout target/run/lines; \
+	  (cd crates/broodline && rt try < stdin > ../../target/run/lines 2> ../../target/run/tried) || { cat target/run/tried; exit 1; }; \
+	  diff crates/broodline/stdout target/run/lines; \
 	fi
 	@echo 'column  row  vector (horizontal, vertical)  sum  luma pattern  chroma pattern  events'
 	@cat target/run/lines

@@ -147,7 +147,7 @@ function check_functions(where) {
     }
     line = text[where]
     while (next_match("hencouch_[a-z_0-9]+")) {
-        if (!(found in entries))
+        if (!(found in entries) && !(found in crates))
             wrong(where, "there is no entry " found)
         cited[FILENAME_OF[where] " " found] = 1
     }

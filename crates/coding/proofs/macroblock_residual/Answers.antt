@@ -12,9 +12,6 @@ use Rattle.coding.proofs.macroblock_residual.Goals as goal
 abbrev lent_in : Start → Samples
 lent_in s = samples s.args.pred_y.now s.args.pred_cb.now s.args.pred_cr.now
 
-abbrev start_at : In-Done → Start
-start_at c = (goal.at.In-Done c).Start
-
 accepted : (c : In-Done) → let a = c.args in
     residual_reply a.size (length a.y.now) (length a.cb.now) (length a.cr.now) a.place
     (length a.pred_y.now) (length a.pred_cb.now) (length a.pred_cr.now) (length a.out.now) ≡ Done

@@ -24,9 +24,6 @@ reply_at s =
 abbrev answer_at : Start → Reply → Counted
 answer_at s r = residual_events r (quantising_at s) s.args.residual.now
 
-abbrev start_at : In-Done → Start
-start_at c = (goal.at.In-Done c).Start
-
 accepted : (c : In-Done) → reply_at (goal.at.In-Done c).Start ≡ Done
 accepted c = sym c.coding_reply-reply.ensures ∙ c.in-Done.is
 

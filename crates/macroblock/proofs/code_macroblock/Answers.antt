@@ -6,7 +6,7 @@ use Rattle.macroblock.specs.Request.{Request, request, reply_of}
 use Rattle.macroblock.specs.Demand.{Demand}
 use Rattle.macroblock.proofs.Answers.{refused_answer, done_answer}
 use Rattle.macroblock.proofs.Demanded.{demanded}
-use Rattle.macroblock.proofs.code_macroblock.Goals.{After-request_reply, In-Done, Start}
+use Rattle.macroblock.proofs.code_macroblock.Goals.{In-Done, Start}
 use Rattle.macroblock.proofs.code_macroblock.Goals as goal
 
 abbrev asked : Start → Request
@@ -14,9 +14,6 @@ asked s =
     let a = s.args in
     request a.settings a.reference.now a.geometry a.y.now a.cb.now a.cr.now a.size a.place
     a.weights.now a.pred_y.now a.pred_cb.now a.pred_cr.now a.lasts.now a.runs.now a.levels.now
-
-abbrev start_at : After-request_reply → Start
-start_at c = (goal.at.After-request_reply c).Start
 
 taken : (c : In-Done) → reply_of (asked (goal.at.In-Done c).Start) ≡ Done
 taken c = sym c.request_reply.ensures ∙ c.in-Done.is

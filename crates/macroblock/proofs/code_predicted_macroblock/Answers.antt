@@ -5,7 +5,7 @@ use Rattle.refusal.proofs.Replies.{not_done}
 use Rattle.macroblock.specs.Predicted.{PredictedRequest, PredictedDemand, predicted_request, predicted_reply_of, predicting}
 use Rattle.macroblock.proofs.Answers.{refused_answer, done_answer}
 use Rattle.macroblock.proofs.PredictedDemanded.{predicted_demanded}
-use Rattle.macroblock.proofs.code_predicted_macroblock.Goals.{After-predicted_reply, In-Done, Start}
+use Rattle.macroblock.proofs.code_predicted_macroblock.Goals.{In-Done, Start}
 use Rattle.macroblock.proofs.code_predicted_macroblock.Goals as goal
 
 abbrev asked : Start → PredictedRequest
@@ -13,9 +13,6 @@ asked s =
     let a = s.args in
     predicted_request a.settings a.rounding a.reference_y.now a.reference_cb.now a.reference_cr.now a.geometry
     a.y.now a.cb.now a.cr.now a.size a.place a.weights.now a.lasts.now a.runs.now a.levels.now
-
-abbrev start_at : After-predicted_reply → Start
-start_at c = (goal.at.After-predicted_reply c).Start
 
 taken : (c : In-Done) → predicted_reply_of (asked (goal.at.In-Done c).Start) ≡ Done
 taken c = sym c.predicted_reply.ensures ∙ c.in-Done.is

@@ -28,9 +28,6 @@ answer_is : (s : Start) → let a = s.args in
 unfolding intra_activity
 answer_is s = refl
 
-abbrev start_at : After-luma_block → Start
-start_at c = (goal.at.After-luma_block c).Start
-
 replied : (c : After-luma_block) → let a = c.args in
     c.luma_block.result ≡ source_luma_reply a.size (length a.y.now) a.place
 replied c = let a = c.args in c.luma_block.ensures.value ∙ fits (source_luma_reply a.size (length a.y.now) a.place)

@@ -5,7 +5,7 @@ use Rattle.refusal.proofs.Replies.{not_done}
 use Rattle.macroblock.specs.Request.{Request, request}
 use Rattle.picture.specs.Run.{next_place, run_reply}
 use Rattle.picture.proofs.Steps.{turned_back, promised}
-use Rattle.picture.proofs.step.Goals.{After-run_reply, In-Done, Start}
+use Rattle.picture.proofs.step.Goals.{In-Done, Start}
 use Rattle.picture.proofs.step.Goals as goal
 
 abbrev asked : Start → Request
@@ -13,9 +13,6 @@ asked s =
     let a = s.args in
     request a.settings a.reference.now a.geometry a.y.now a.cb.now a.cr.now a.size (next_place a.run)
     a.weights.now a.pred_y.now a.pred_cb.now a.pred_cr.now a.lasts.now a.runs.now a.levels.now
-
-abbrev start_at : After-run_reply → Start
-start_at c = (goal.at.After-run_reply c).Start
 
 not_refused : (c : In-Done) → let a = c.args in run_reply a.run a.size ≡ Done
 not_refused c = sym c.run_reply.ensures ∙ c.in-Done.is

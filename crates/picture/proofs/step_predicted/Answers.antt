@@ -5,7 +5,7 @@ use Rattle.refusal.proofs.Replies.{not_done}
 use Rattle.macroblock.specs.Predicted.{PredictedRequest, predicted_request}
 use Rattle.picture.specs.Run.{next_place, run_reply}
 use Rattle.picture.proofs.Steps.{predicted_turned_back, predicted_promised}
-use Rattle.picture.proofs.step_predicted.Goals.{After-run_reply, In-Done, Start}
+use Rattle.picture.proofs.step_predicted.Goals.{In-Done, Start}
 use Rattle.picture.proofs.step_predicted.Goals as goal
 
 abbrev asked : Start → PredictedRequest
@@ -13,9 +13,6 @@ asked s =
     let a = s.args in
     predicted_request a.settings a.rounding a.reference_y.now a.reference_cb.now a.reference_cr.now a.geometry
     a.y.now a.cb.now a.cr.now a.size (next_place a.run) a.weights.now a.lasts.now a.runs.now a.levels.now
-
-abbrev start_at : After-run_reply → Start
-start_at c = (goal.at.After-run_reply c).Start
 
 not_refused : (c : In-Done) → let a = c.args in run_reply a.run a.size ≡ Done
 not_refused c = sym c.run_reply.ensures ∙ c.in-Done.is

@@ -20,9 +20,6 @@ block_in s = let a = s.args in block_reply a.geometry (length a.samples.now) a.v
 abbrev reply_in : Start → Reply
 reply_in s = let a = s.args in quarter_reply a.bits_per_pixel a.geometry (length a.samples.now) a.vector a.site (length a.out.now)
 
-abbrev start : After-and_then-reply → Start
-start c = (goal.at.After-and_then-reply c).Start
-
 answered : (c : After-and_then-reply) → c.and_then-reply.result ≡ reply_in (goal.at.After-and_then-reply c).Start
 unfolding quarter_reply
 answered c = joined c.and_then-reply.ensures c.bits_reply.ensures c.block_reply-block.ensures

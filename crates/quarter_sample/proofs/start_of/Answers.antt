@@ -21,9 +21,6 @@ start1 c = (goal.at.After-split_quarter_pel-across c).Start
 across : (c : After-split_quarter_pel-across) → c.split_quarter_pel-across.result ≡ split_quarter c.args.vector.x
 across c = c.split_quarter_pel-across.ensures ∙ ap split_quarter (of_bits_lem c.args.vector.x c.struct_told-1.given.0.1)
 
-abbrev start2 : After-split_quarter_pel-down → Start
-start2 c = start1 (goal.at.After-split_quarter_pel-down c).After-split_quarter_pel-across
-
 down : (c : After-split_quarter_pel-down) → c.split_quarter_pel-down.result ≡ split_quarter c.args.vector.y
 down c = c.split_quarter_pel-down.ensures ∙ ap split_quarter (of_bits_lem c.args.vector.y c.struct_told-2-1.given.1.0.1)
 
@@ -37,9 +34,6 @@ module _ (c : After-struct_told-4-1) where
   sum_x =
       ap₂ ◌+ℤ◌ (of_bits_lem s.args.corner.x c.struct_told-3-1.given.0.1)
       (of_bits_lem c.split_quarter_pel-across.result.whole c.struct_told-4-1.given.0.1 ∙ ap (λ (q : QuarterPel). q.whole) (across (goal.at.After-struct_told-4-1 c).After-split_quarter_pel-across))
-
-abbrev up_to4 : After-struct_told-6-1 → After-struct_told-4-1
-up_to4 c = (goal.at.After-struct_told-6-1 c).After-struct_told-4-1
 
 sum_y : (c : After-struct_told-6-1) → let a = c.args in
     to_z w32 (of_z w32 a.corner.y) +ℤ to_z w32 (of_z w32 c.split_quarter_pel-down.result.whole)

@@ -9,7 +9,7 @@ use Rattle.record.specs.declared.MotionVector.{MotionVector}
 use Rattle.record.specs.Zero.{zero_vector}
 use Rattle.areas.specs.Search.{vectors_area}
 use Rattle.areas.proofs.Places.{stored_all, four_elements}
-use Rattle.areas.proofs.vectors.fill_four.Goals.{After-vectors-4-1, Start}
+use Rattle.areas.proofs.vectors.fill_four.Goals.{Start}
 use Rattle.areas.proofs.vectors.fill_four.Goals as goal
 
 module _ (s : Start) where
@@ -42,9 +42,6 @@ module _ (s : Start) where
 
   after_three : length (set (set (set s.args.sums.now 0 (sum_at 0)) 1 (sum_at 1)) 2 (sum_at 2)) ≡ 4
   after_three = length-set (set (set s.args.sums.now 0 (sum_at 0)) 1 (sum_at 1)) 2 (sum_at 2) ∙ after_two
-
-abbrev start_at : After-vectors-4-1 → Start
-start_at c = (goal.at.After-vectors-4-1 c).Start
 
 pub bounds-sums-1 : goal.bounds-sums-1
 bounds-sums-1 c = omega (arith, after_one (goal.at.bounds-sums-1 c).Start)

@@ -26,9 +26,6 @@ module _ (s : Start) where
   abbrev sum_by : Reply → List ℕ
   sum_by r = done r (s.args.found.sum ∷ []) s.args.sum.now
 
-abbrev start_at : After-and_then-reply → Start
-start_at c = (goal.at.After-and_then-reply c).Start
-
 reply_is : (c : After-and_then-reply) → c.and_then-reply.result ≡ reply_of (goal.at.After-and_then-reply c).Start
 reply_is c = areas_reply c.args.found.reply _ _ _ _ c.and_then-reply.ensures c.unless-areas.ensures c.both-lengths.ensures
 

@@ -23,9 +23,6 @@ abbrev block_at : Start → List ℤ
 block_at s = s.args.residual.now
 
 -- the four steps, one after the other
-abbrev start_at : After-forward_dct_8x8 → Start
-start_at c = (goal.at.After-forward_dct_8x8 c).Start
-
 transformed_is : (c : After-forward_dct_8x8) → c.forward_dct_8x8.new.out ≡ coefficients (block_at (goal.at.After-forward_dct_8x8 c).Start)
 transformed_is c =
     let e = c.forward_dct_8x8.ensures in

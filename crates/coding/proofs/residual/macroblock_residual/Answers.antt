@@ -6,13 +6,10 @@ use Rattle.plane.specs.Source.{source_luma, source_chroma}
 use Rattle.plane.specs.Samples.{samples}
 use Rattle.coding.specs.Residual.{residual_of}
 use Rattle.plane.proofs.ReadySource.{luma_alone, blue_alone, red_alone, luma_is, chroma_is}
-use Rattle.coding.proofs.residual.macroblock_residual.Goals.{After-chroma_block, After-chroma_block-2, After-luma_block, Start}
+use Rattle.coding.proofs.residual.macroblock_residual.Goals.{After-chroma_block, After-chroma_block-2, After-luma_block}
 use Rattle.coding.proofs.residual.macroblock_residual.Goals as goal
 
 -- the three local blocks
-abbrev start_at : After-luma_block → Start
-start_at c = (goal.at.After-luma_block c).Start
-
 luma_copied : (c : After-luma_block) → let a = c.args in
     c.luma_block.new.out ≡ source_luma a.y.now a.size a.place
 luma_copied c =

@@ -14,14 +14,11 @@ use Rattle.basis.proofs.Lists.{length-tabulate, laid_none, laid_put, laid_end}
 use Rattle.plane.specs.Plane.{geometry_of, plane_of}
 use Rattle.half_sample.specs.ToldRows.{samples_for, sample_by}
 use Rattle.half_sample.proofs.rows.plane_rows.Invariants.{block_row}
-use Rattle.half_sample.proofs.rows.plane_rows.Goals.{In-loop-j, Start}
+use Rattle.half_sample.proofs.rows.plane_rows.Goals.{In-loop-j}
 use Rattle.half_sample.proofs.rows.plane_rows.Goals as goal
 
 pub loop-j-init : goal.loop-j-init
 loop-j-init c = (omega arith, refl, sym (laid_none _ _ (λ j. length-tabulate _ _) _))
-
-abbrev start_of : In-loop-j → Start
-start_of c = (goal.at.In-loop-j c).Start
 
 -- row j of the block lies within it
 inside : (c : In-loop-j) → let a = c.args in c.loop-j.j * a.w + a.w ≤ a.h * a.w

@@ -13,7 +13,7 @@ use Rattle.macroblock.specs.Request.{source, quantising_in}
 use Rattle.macroblock.specs.Answer.{record_with, record_at}
 use Rattle.macroblock.specs.Predicted.{PredictedRequest, predicted_request, reference_planes, made_prediction, predicting}
 use Rattle.macroblock.proofs.PredictedAccepted.{whole_lengths, PredictedAccepted, predicted_accepted}
-use Rattle.macroblock.proofs.predicted.code_predicted.Goals.{After-search_vectors-found, Start}
+use Rattle.macroblock.proofs.predicted.code_predicted.Goals.{Start}
 use Rattle.macroblock.proofs.predicted.code_predicted.Goals as goal
 
 abbrev asked : Start → PredictedRequest
@@ -42,9 +42,6 @@ pub search_vectors-found-requires : goal.search_vectors-found-requires
 search_vectors-found-requires c = (known (goal.at.search_vectors-found-requires c).Start).searched
 
 -- what was found
-abbrev start_at : After-search_vectors-found → Start
-start_at c = (goal.at.After-search_vectors-found c).Start
-
 pub predict_found-requires : goal.predict_found-requires
 predict_found-requires c =
     let n = asked (goal.at.predict_found-requires c).Start in

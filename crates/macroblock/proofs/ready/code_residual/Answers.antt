@@ -25,9 +25,6 @@ module _ (s : Start) where
   lent_at = samples s.args.lent_y.now s.args.lent_cb.now s.args.lent_cr.now
 
 -- the local residual
-abbrev start_at : After-macroblock_residual → Start
-start_at c = (goal.at.After-macroblock_residual c).Start
-
 abbrev local : After-macroblock_residual → List ℤ
 local c = c.macroblock_residual.new.out
 
@@ -42,9 +39,6 @@ residual_is : (c : After-macroblock_residual) → local c ≡ residual_of (sourc
 residual_is c = left _ _ _ _ _ (residual-done c) refl c.macroblock_residual.ensures.out_after
 
 -- its events
-abbrev residual_at : After-quantise_inter_residual-counted → After-macroblock_residual
-residual_at c = (goal.at.After-quantise_inter_residual-counted c).After-macroblock_residual
-
 counted_is : (c : After-quantise_inter_residual-counted) → c.quantise_inter_residual-counted.result ≡ record { reply = Done; counts = counts_of (quantising_at (goal.at.After-quantise_inter_residual-counted c).Start) (local (goal.at.After-quantise_inter_residual-counted c).After-macroblock_residual) }
 counted_is c =
     let p = c.requires in

@@ -41,9 +41,6 @@ one_is : (c : After-estimate_motion-one) → c.estimate_motion-one.result ≡ es
 one_is c = c.estimate_motion-one.ensures.value ∙ one_answered (asked_at (goal.at.After-estimate_motion-one c).Start) c.requires
 
 -- the four around it
-abbrev one_at : After-estimate_motion_4mv-four → After-estimate_motion-one
-one_at c = (goal.at.After-estimate_motion_4mv-four c).After-estimate_motion-one
-
 four_is : (c : After-estimate_motion_4mv-four) → let s = start_at (goal.at.After-estimate_motion_4mv-four c).After-estimate_motion-one in c.estimate_motion_4mv-four.result ≡ four_of (settings_at s) (block_at s)
 four_is c =
     let seed = (one_vector (settings_at (goal.at.After-estimate_motion_4mv-four c).Start) (block_at (goal.at.After-estimate_motion_4mv-four c).Start)).vector in

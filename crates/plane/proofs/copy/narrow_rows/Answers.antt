@@ -12,14 +12,11 @@ use Rattle.basis.proofs.Signed.{of_bits_lem}
 use Rattle.plane.specs.Plane.{plane_of, copied_block}
 use Rattle.plane.specs.ToldHeld.{column_at}
 use Rattle.plane.proofs.Front.{front_told, front_length, front_fits}
-use Rattle.plane.proofs.copy.narrow_rows.Goals.{After-set_columns, Start}
+use Rattle.plane.proofs.copy.narrow_rows.Goals.{After-set_columns}
 use Rattle.plane.proofs.copy.narrow_rows.Goals as goal
 
 abbrev zeros : List ℕ
 zeros = replicate 9 0
-
-abbrev start : After-set_columns → Start
-start c = (goal.at.After-set_columns c).Start
 
 -- the columns that were set are as many as the block's, and its own
 columns_are : (c : After-set_columns) → let a = c.args in

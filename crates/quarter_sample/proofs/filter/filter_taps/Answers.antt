@@ -3,13 +3,9 @@ use native.Mathlib.Omega.{arith}
 use mathlib.Core.Path.{◌≡◌}
 use lib.ListN.{length}
 use Rattle.quarter_sample.proofs.Lines.{at_quarter, at_half, at_three_quarters}
-use Rattle.quarter_sample.proofs.filter.filter_taps.Goals.{After-slice_known-1, Start}
 use Rattle.quarter_sample.proofs.filter.filter_taps.Goals as goal
 
 -- where the call began
-abbrev start : After-slice_known-1 → Start
-start c = (goal.at.After-slice_known-1 c).Start
-
 pub near_taps-requires : goal.near_taps-requires
 near_taps-requires c = record {
   rc_bound = (c.requires.fraction_bound.2, c.requires.taps_fit.fits3);

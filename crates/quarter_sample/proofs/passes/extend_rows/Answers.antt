@@ -7,7 +7,7 @@ use Rattle.basis.proofs.Bounds.{row_before}
 use Rattle.basis.proofs.Lists.{length-tabulate, laid_none, laid_put, laid_end}
 use Rattle.basis.proofs.Slices.{part_length}
 use Rattle.quarter_sample.proofs.Buffers.{extended_row}
-use Rattle.quarter_sample.proofs.passes.extend_rows.Goals.{In-loop-j, Start}
+use Rattle.quarter_sample.proofs.passes.extend_rows.Goals.{In-loop-j}
 use Rattle.quarter_sample.proofs.passes.extend_rows.Goals as goal
 
 pub overflow_add-long : goal.overflow_add-long
@@ -15,9 +15,6 @@ overflow_add-long c = omega (arith, c.requires.n_high)
 
 pub loop-j-init : goal.loop-j-init
 loop-j-init c = (omega arith, refl, sym (laid_none _ _ (λ j. length-tabulate _ _) _))
-
-abbrev start_of : In-loop-j → Start
-start_of c = (goal.at.In-loop-j c).Start
 
 -- row j of the result lies within it, and row j of the block within that
 inside : (c : In-loop-j) → let a = c.args in c.loop-j.j * (a.n + 6) + (a.n + 6) ≤ a.rows * (a.n + 6)

@@ -9,7 +9,7 @@ use Rattle.basis.proofs.Lists.{length-tabulate, laid_none, laid_put, laid_end}
 use Rattle.basis.proofs.Slices.{part_length}
 use Rattle.quarter_sample.specs.ToldPasses.{column_line}
 use Rattle.quarter_sample.proofs.Reflection.{mirror-below}
-use Rattle.quarter_sample.proofs.passes.mirror_rows.Goals.{After-mirror_index, In-loop-u, Start}
+use Rattle.quarter_sample.proofs.passes.mirror_rows.Goals.{After-mirror_index, In-loop-u}
 use Rattle.quarter_sample.proofs.passes.mirror_rows.Goals as goal
 
 pub overflow_add-rows : goal.overflow_add-rows
@@ -17,9 +17,6 @@ overflow_add-rows c = omega (arith, c.requires.size_high)
 
 pub loop-u-init : goal.loop-u-init
 loop-u-init c = (omega arith, refl, sym (laid_none _ _ (λ j. length-tabulate _ _) _))
-
-abbrev start_of : In-loop-u → Start
-start_of c = (goal.at.In-loop-u c).Start
 
 -- row u of the result lies within it, and the row that it is read from within the source
 inside : (c : In-loop-u) → let a = c.args in c.loop-u.u * a.w + a.w ≤ (a.size + 6) * a.w
