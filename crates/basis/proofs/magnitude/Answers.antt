@@ -45,10 +45,14 @@ pub overflow_sub-result : goal.overflow_sub-result
 overflow_sub-result c = rw (read (goal.at.overflow_sub-result c).Then-x-lt0) (fits (goal.at.overflow_sub-result c).Then-x-lt0)
 
 pub overflow_cast-result : goal.overflow_cast-result
-overflow_cast-result c = rw (read (goal.at.overflow_cast-result c).Then-x-lt0) (cast_read w32 w32 (negsuc 0 -ℤ x (goal.at.overflow_cast-result c).Then-x-lt0) tt (fits (goal.at.overflow_cast-result c).Then-x-lt0) (none_below (goal.at.overflow_cast-result c).Then-x-lt0))
+overflow_cast-result c =
+    let k = (goal.at.overflow_cast-result c).Then-x-lt0 in
+    rw (read k) (cast_read w32 w32 (negsuc 0 -ℤ x k) tt (fits k) (none_below k))
 
 pub overflow_add-result : goal.overflow_add-result
-overflow_add-result c = record { fits = omega (arith, value (goal.at.overflow_add-result c).Then-x-lt0, size_parts (x (goal.at.overflow_add-result c).Then-x-lt0), negative (goal.at.overflow_add-result c).Then-x-lt0, fits_below {w = w32} (x (goal.at.overflow_add-result c).Then-x-lt0) c.ranges.x) }
+overflow_add-result c =
+    let k = (goal.at.overflow_add-result c).Then-x-lt0 in
+    record { fits = omega (arith, value k, size_parts (x k), negative k, fits_below {w = w32} (x k) c.ranges.x) }
 
 pub overflow_cast-result-else-x-lt0 : goal.overflow_cast-result-else-x-lt0
 overflow_cast-result-else-x-lt0 c = cast_read w32 w32 c.args.x tt c.ranges.x (not_negative (goal.at.overflow_cast-result-else-x-lt0 c).Else-x-lt0)

@@ -29,10 +29,14 @@ pub overflow_add-result-in-Done : goal.overflow_add-result-in-Done
 overflow_add-result-in-Done c = omega (arith, (sides (goal.at.overflow_add-result-in-Done c).In-Done).high)
 
 pub overflow_mul-result-in-Done : goal.overflow_mul-result-in-Done
-overflow_mul-result-in-Done c = omega (arith, chroma_small (head (goal.at.overflow_mul-result-in-Done c).In-Done) (sides (goal.at.overflow_mul-result-in-Done c).In-Done))
+overflow_mul-result-in-Done c =
+    let k = (goal.at.overflow_mul-result-in-Done c).In-Done in
+    omega (arith, chroma_small (head k) (sides k))
 
 pub returns-in-Done : goal.returns-in-Done
-returns-in-Done c = (sym (announced (head (goal.at.returns-in-Done c).In-Done) Done (whole (goal.at.returns-in-Done c).In-Done)), luma_small (head (goal.at.returns-in-Done c).In-Done) (sides (goal.at.returns-in-Done c).In-Done), chroma_small (head (goal.at.returns-in-Done c).In-Done) (sides (goal.at.returns-in-Done c).In-Done))
+returns-in-Done c =
+    let k = (goal.at.returns-in-Done c).In-Done in
+    (sym (announced (head k) Done (whole k)), luma_small (head k) (sides k), chroma_small (head k) (sides k))
 
 pub returns-in-Refused : goal.returns-in-Refused
 returns-in-Refused c =

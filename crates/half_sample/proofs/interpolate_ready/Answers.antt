@@ -91,9 +91,11 @@ interpolate_from-requires c =
 pub returns : goal.returns
 unfolding half_block half_sample
 returns c =
+    let k = (goal.at.returns c).After-start_of-across in
+    let l = (goal.at.returns c).After-start_of-along in
     let a = c.args in
-    let x = of_bits_lem _ c.struct_told-5-1.given.0.1 ∙ across (goal.at.returns c).After-start_of-across in
-    let y = of_bits_lem _ c.struct_told-6-1.given.0.1 ∙ along (goal.at.returns c).After-start_of-along in
+    let x = of_bits_lem _ c.struct_told-5-1.given.0.1 ∙ across k in
+    let y = of_bits_lem _ c.struct_told-6-1.given.0.1 ∙ along l in
     let p = plane_of a.samples.now a.geometry in
     c.interpolate_from.ensures
-    ∙ λ i. raster a.site.width a.site.height (sample_from p (x i) (y i) (across-half (goal.at.returns c).After-start_of-across i) (along_half (goal.at.returns c).After-start_of-along i) (a.rounding % 2))
+    ∙ λ i. raster a.site.width a.site.height (sample_from p (x i) (y i) (across-half k i) (along_half l i) (a.rounding % 2))

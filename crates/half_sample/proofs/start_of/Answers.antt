@@ -30,8 +30,9 @@ overflow_add-result c = subst (SFits w32) (sym (sum_is (goal.at.overflow_add-res
 
 pub returns : goal.returns
 returns c =
+    let k = (goal.at.returns c).After-split_half_pel-split in
     let z = c.args.corner +ℤ shr_z c.args.mv 2 in
     record {
-      at = ap (λ (v : ℤ). to_z w32 (of_z w32 v)) (sum_is (goal.at.returns c).After-split_half_pel-split) ∙ to_z-of_z w32 z (sum_fits (goal.at.returns c).Start);
-      half = ap (λ (r : HalfPel). r.half) (split_is (goal.at.returns c).After-split_half_pel-split);
+      at = ap (λ (v : ℤ). to_z w32 (of_z w32 v)) (sum_is k) ∙ to_z-of_z w32 z (sum_fits (goal.at.returns c).Start);
+      half = ap (λ (r : HalfPel). r.half) (split_is k);
     }

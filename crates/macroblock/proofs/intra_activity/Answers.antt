@@ -34,7 +34,8 @@ replied c = let a = c.args in c.luma_block.ensures.value ∙ fits (source_luma_r
 
 pub returns-in-Refused : goal.returns-in-Refused
 returns-in-Refused c =
-    ap (answer_at (goal.at.returns-in-Refused c).Start) (sym c.in-Refused.is ∙ replied (goal.at.returns-in-Refused c).After-luma_block) ∙ answer_is (goal.at.returns-in-Refused c).Start
+    let s = (goal.at.returns-in-Refused c).Start in
+    ap (answer_at s) (sym c.in-Refused.is ∙ replied (goal.at.returns-in-Refused c).After-luma_block) ∙ answer_is s
 
 pub returns-in-Done : goal.returns-in-Done
 returns-in-Done c =

@@ -53,10 +53,14 @@ pub overflow_sub-down : goal.overflow_sub-down
 overflow_sub-down c = rw (read (goal.at.overflow_sub-down c).Then-x-lt0) (fits (goal.at.overflow_sub-down c).Then-x-lt0)
 
 pub overflow_cast-down : goal.overflow_cast-down
-overflow_cast-down c = rw (read (goal.at.overflow_cast-down c).Then-x-lt0) (cast_read w32 w64 (negsuc 0 -ℤ x (goal.at.overflow_cast-down c).Then-x-lt0) tt (fits (goal.at.overflow_cast-down c).Then-x-lt0) (none_below (goal.at.overflow_cast-down c).Then-x-lt0))
+overflow_cast-down c =
+    let k = (goal.at.overflow_cast-down c).Then-x-lt0 in
+    rw (read k) (cast_read w32 w64 (negsuc 0 -ℤ x k) tt (fits k) (none_below k))
 
 pub returns-then-i-down : goal.returns-then-i-down
-returns-then-i-down c = omega (arith, c.if-i-down.true, value (goal.at.returns-then-i-down c).Then-x-lt0, sides (x (goal.at.returns-then-i-down c).Then-x-lt0), negative (goal.at.returns-then-i-down c).Then-x-lt0, above-add (x (goal.at.returns-then-i-down c).Then-x-lt0) (pos c.args.i))
+returns-then-i-down c =
+    let k = (goal.at.returns-then-i-down c).Then-x-lt0 in
+    omega (arith, c.if-i-down.true, value k, sides (x k), negative k, above-add (x k) (pos c.args.i))
 
 pub returns-then-x-lt0 : goal.returns-then-x-lt0
 returns-then-x-lt0 c =
@@ -71,8 +75,10 @@ overflow_cast-up c = cast_read w32 w64 c.args.x tt c.ranges.x (not_negative (goa
 
 pub returns-then-size-i-2 : goal.returns-then-size-i-2
 returns-then-size-i-2 c =
-    omega (arith, c.if-size-i-2.true, c.if-size-i.false, up_is (goal.at.returns-then-size-i-2 c).Else-x-lt0, not_negative (goal.at.returns-then-size-i-2 c).Else-x-lt0, above-add c.args.x (pos c.args.i))
+    let k = (goal.at.returns-then-size-i-2 c).Else-x-lt0 in
+    omega (arith, c.if-size-i-2.true, c.if-size-i.false, up_is k, not_negative k, above-add c.args.x (pos c.args.i))
 
 pub returns : goal.returns
 returns c =
-    omega (arith, c.if-size-i-2.false, c.if-size-i.false, up_is (goal.at.returns c).Else-x-lt0, not_negative (goal.at.returns c).Else-x-lt0, above-add c.args.x (pos c.args.i))
+    let k = (goal.at.returns c).Else-x-lt0 in
+    omega (arith, c.if-size-i-2.false, c.if-size-i.false, up_is k, not_negative k, above-add c.args.x (pos c.args.i))

@@ -33,19 +33,23 @@ module _ (c : Else-x-lt0) where
   column_is = cast_value w32 x c.ranges.x not_negative
 
 pub overflow_cast-column : goal.overflow_cast-column
-overflow_cast-column c = cast_read w32 w64 (x (goal.at.overflow_cast-column c).Else-x-lt0) tt c.ranges.x (not_negative (goal.at.overflow_cast-column c).Else-x-lt0)
+overflow_cast-column c =
+    let k = (goal.at.overflow_cast-column c).Else-x-lt0 in
+    cast_read w32 w64 (x k) tt c.ranges.x (not_negative k)
 
 pub returns-then-width-column : goal.returns-then-width-column
 returns-then-width-column c =
+    let k = (goal.at.returns-then-width-column c).Else-x-lt0 in
     let a = c.args in
-    let far : a.width < above (x (goal.at.returns-then-width-column c).Else-x-lt0) = omega (arith, c.if-width-column.true, column_is (goal.at.returns-then-width-column c).Else-x-lt0) in
-    sym (second_fails (eqb (below (x (goal.at.returns-then-width-column c).Else-x-lt0)) 0) (leb_same (above (x (goal.at.returns-then-width-column c).Else-x-lt0) + a.w) a.width 1 0 (λ h. omega arith) (λ h. omega arith)))
+    let far : a.width < above (x k) = omega (arith, c.if-width-column.true, column_is k) in
+    sym (second_fails (eqb (below (x k)) 0) (leb_same (above (x k) + a.w) a.width 1 0 (λ h. omega arith) (λ h. omega arith)))
 
 pub returns : goal.returns
 returns c =
+    let k = (goal.at.returns c).Else-x-lt0 in
     let a = c.args in
-    let column = nat_abs (to_z w32 (of_z w32 (x (goal.at.returns c).Else-x-lt0))) in
-    let is : column ≡ above (x (goal.at.returns c).Else-x-lt0) = column_is (goal.at.returns c).Else-x-lt0 in
-    let low : eqb (below (x (goal.at.returns c).Else-x-lt0)) 0 ≡ true = eqb_same (below (x (goal.at.returns c).Else-x-lt0)) 0 0 0 (λ h. omega arith) (λ h. not_negative (goal.at.returns c).Else-x-lt0) in
-    leb_same a.w (a.width - column) (above (x (goal.at.returns c).Else-x-lt0) + a.w) a.width (λ h. omega (arith, c.if-width-column.false)) (λ h. omega arith)
-    ∙ sym (ap (λ (b : Bool). b && leb (above (x (goal.at.returns c).Else-x-lt0) + a.w) a.width) low)
+    let column = nat_abs (to_z w32 (of_z w32 (x k))) in
+    let is : column ≡ above (x k) = column_is k in
+    let low : eqb (below (x k)) 0 ≡ true = eqb_same (below (x k)) 0 0 0 (λ h. omega arith) (λ h. not_negative k) in
+    leb_same a.w (a.width - column) (above (x k) + a.w) a.width (λ h. omega (arith, c.if-width-column.false)) (λ h. omega arith)
+    ∙ sym (ap (λ (b : Bool). b && leb (above (x k) + a.w) a.width) low)

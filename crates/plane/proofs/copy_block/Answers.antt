@@ -28,9 +28,10 @@ ready c = sym (answered (goal.at.In-Done c).After-and_then-reply) ∙ c.in-Done.
 
 pub copy_rows-requires : goal.copy_rows-requires
 copy_rows-requires c =
+    let s = (goal.at.copy_rows-requires c).Start in
     let e = ready (goal.at.copy_rows-requires c).In-Done in (
-      (usable _ _ (first_done (reference_of (goal.at.copy_rows-requires c).Start) (length_of (goal.at.copy_rows-requires c).Start) e)).hold,
-      length_is _ _ _ (then_done (reference_of (goal.at.copy_rows-requires c).Start) (length_of (goal.at.copy_rows-requires c).Start) e) ∙ mul_comm c.args.w c.args.h,
+      (usable _ _ (first_done (reference_of s) (length_of s) e)).hold,
+      length_is _ _ _ (then_done (reference_of s) (length_of s) e) ∙ mul_comm c.args.w c.args.h,
     )
 
 pub returns-in-Refused : goal.returns-in-Refused
@@ -51,10 +52,11 @@ returns-then-w-ne0 c = record {
 pub returns-else-w-ne0 : goal.returns-else-w-ne0
 unfolding copy_reply
 returns-else-w-ne0 c =
+    let s = (goal.at.returns-else-w-ne0 c).Start in
     let e = ready (goal.at.returns-else-w-ne0 c).In-Done in
     let w = c.args.w in
     let h = c.args.h in
     let none : w * h ≡ 0 = ap (λ (n : ℕ). n * h) c.if-w-ne0.false ∙ zero-mul h in record {
       value = sym e;
-      out_after = empty_same _ _ (length_is _ _ _ (then_done (reference_of (goal.at.returns-else-w-ne0 c).Start) (length_of (goal.at.returns-else-w-ne0 c).Start) e) ∙ none) (length-raster _ _ _ ∙ mul_comm h w ∙ none);
+      out_after = empty_same _ _ (length_is _ _ _ (then_done (reference_of s) (length_of s) e) ∙ none) (length-raster _ _ _ ∙ mul_comm h w ∙ none);
     }

@@ -27,7 +27,9 @@ pub overflow_sub-w : goal.overflow_sub-w
 overflow_sub-w c = (within (goal.at.overflow_sub-w c).Else-not-is_sized).low_w
 
 pub overflow_add-h : goal.overflow_add-h
-overflow_add-h c = omega (arith, last_fits _ (within (goal.at.overflow_add-h c).Else-not-is_sized), (within (goal.at.overflow_add-h c).Else-not-is_sized).high_w)
+overflow_add-h c =
+    let k = (goal.at.overflow_add-h c).Else-not-is_sized in
+    omega (arith, last_fits _ (within k), (within k).high_w)
 
 pub returns : goal.returns
 unfolding reference_reply reference_size_reply reference_bytes_reply

@@ -30,9 +30,10 @@ returns-in-Refused c =
 
 pub returns-in-Done : goal.returns-in-Done
 returns-in-Done c =
+    let s = (goal.at.returns-in-Done c).Start in
     let e = sym c.in-Done.is ∙ c.mode_number_reply-known.ensures in
     let u = c.mode_of-units.ensures in
     let p = c.predict_luma_macroblock.ensures in record {
-      value = p.value ∙ ap (reply_in (goal.at.returns-in-Done c).Start) u ∙ ap (λ (r : Reply). and_then r (reply_in (goal.at.returns-in-Done c).Start (mode_of c.args.mode c.args.bpp))) e;
-      out_after = p.out_after ∙ ap (λ (m : BVopSampleMode). done c.predict_luma_macroblock.result (luma_in (goal.at.returns-in-Done c).Start m) c.args.out.now) u;
+      value = p.value ∙ ap (reply_in s) u ∙ ap (λ (r : Reply). and_then r (reply_in s (mode_of c.args.mode c.args.bpp))) e;
+      out_after = p.out_after ∙ ap (λ (m : BVopSampleMode). done c.predict_luma_macroblock.result (luma_in s m) c.args.out.now) u;
     }

@@ -34,9 +34,10 @@ returns-in-Refused c =
 
 pub returns-in-Done : goal.returns-in-Done
 returns-in-Done c =
+    let s = (goal.at.returns-in-Done c).Start in
     let e = sym c.in-Done.is ∙ c.mode_number_reply-known.ensures in
     let u = c.mode_of-units.ensures in
     let p = c.predict_macroblock.ensures in (
-      p.0 ∙ ap (reply_in (goal.at.returns-in-Done c).Start) u ∙ ap (λ (r : Reply). and_then r (reply_in (goal.at.returns-in-Done c).Start (mode_of c.args.mode c.args.bpp))) e,
-      p.1 ∙ ap (λ (m : BVopSampleMode). done c.predict_macroblock.result (samples_in (goal.at.returns-in-Done c).Start m) (areas (goal.at.returns-in-Done c).Start)) u,
+      p.0 ∙ ap (reply_in s) u ∙ ap (λ (r : Reply). and_then r (reply_in s (mode_of c.args.mode c.args.bpp))) e,
+      p.1 ∙ ap (λ (m : BVopSampleMode). done c.predict_macroblock.result (samples_in s m) (areas s)) u,
     )

@@ -23,17 +23,19 @@ block_in s m = let a = s.args in predicted_block m (plane_of a.samples.now a.geo
 pub returns-in-HalfPel : goal.returns-in-HalfPel
 unfolding predicted_block half_block
 returns-in-HalfPel c =
+    let s = (goal.at.returns-in-HalfPel c).Start in
     let e = c.in-HalfPel.is in record {
-      value = c.interpolate_block_into.ensures.value ∙ ap (reply_in (goal.at.returns-in-HalfPel c).Start) (sym e);
+      value = c.interpolate_block_into.ensures.value ∙ ap (reply_in s) (sym e);
       out_after = c.interpolate_block_into.ensures.out_after
-          ∙ ap (λ (m : BVopSampleMode). done c.interpolate_block_into.result (block_in (goal.at.returns-in-HalfPel c).Start m) c.args.out.now) (sym e);
+          ∙ ap (λ (m : BVopSampleMode). done c.interpolate_block_into.result (block_in s m) c.args.out.now) (sym e);
     }
 
 pub returns-in-QuarterPel : goal.returns-in-QuarterPel
 unfolding predicted_block quarter_block
 returns-in-QuarterPel c =
+    let s = (goal.at.returns-in-QuarterPel c).Start in
     let e = c.in-QuarterPel.is in record {
-      value = c.interpolate_block_qpel_into.ensures.value ∙ ap (reply_in (goal.at.returns-in-QuarterPel c).Start) (sym e);
+      value = c.interpolate_block_qpel_into.ensures.value ∙ ap (reply_in s) (sym e);
       out_after = c.interpolate_block_qpel_into.ensures.out_after
-          ∙ ap (λ (m : BVopSampleMode). done c.interpolate_block_qpel_into.result (block_in (goal.at.returns-in-QuarterPel c).Start m) c.args.out.now) (sym e);
+          ∙ ap (λ (m : BVopSampleMode). done c.interpolate_block_qpel_into.result (block_in s m) c.args.out.now) (sym e);
     }

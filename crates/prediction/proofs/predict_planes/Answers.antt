@@ -74,11 +74,13 @@ predict_ready-requires c =
 
 pub predict_chroma-requires : goal.predict_chroma-requires
 predict_chroma-requires c =
-    chroma_part_lem (goal.at.predict_chroma-requires c).After-vector_of-vector _ _ (ready (goal.at.predict_chroma-requires c).Start).planes.blue (ready (goal.at.predict_chroma-requires c).Start).areas.blue
+    let s = (goal.at.predict_chroma-requires c).Start in
+    chroma_part_lem (goal.at.predict_chroma-requires c).After-vector_of-vector _ _ (ready s).planes.blue (ready s).areas.blue
 
 pub predict_chroma-requires-2 : goal.predict_chroma-requires-2
 predict_chroma-requires-2 c =
-    chroma_part_lem (goal.at.predict_chroma-requires-2 c).After-vector_of-vector _ _ (ready (goal.at.predict_chroma-requires-2 c).Start).planes.red (ready (goal.at.predict_chroma-requires-2 c).Start).areas.red
+    let s = (goal.at.predict_chroma-requires-2 c).Start in
+    chroma_part_lem (goal.at.predict_chroma-requires-2 c).After-vector_of-vector _ _ (ready s).planes.red (ready s).areas.red
 
 pub returns : goal.returns
 unfolding macroblock_prediction

@@ -103,16 +103,18 @@ interpolate_place-requires c =
 pub returns : goal.returns
 unfolding quarter_block quarter_sample
 returns c =
+    let k = (goal.at.returns c).After-copy_block in
+    let s = (goal.at.returns c).Start in
     let a = c.args in
-    let f = ready (goal.at.returns c).Start in
+    let f = ready s in
     let rc = a.rounding % 2 in
-    let o = (place_by_steps (goal.at.returns c).Start).at in
+    let o = (place_by_steps s).at in
     let x = split_quarter a.vector.x in
     let y = split_quarter a.vector.y in
     let fractions = ap (λ (t : BlockStart). t.fractions) c.start_of-start.ensures in
     let r = copied (plane_of a.samples.now a.geometry) o.x o.y in
     c.interpolate_place.ensures
-    ∙ ap₂ (λ (m n : ℕ). place_at a.site.width a.site.height rc m n (buffer (goal.at.returns c).After-copy_block ++ rest (goal.at.returns c).After-copy_block)) c.largest_sample.ensures fractions
+    ∙ ap₂ (λ (m n : ℕ). place_at a.site.width a.site.height rc m n (buffer k ++ rest k)) c.largest_sample.ensures fractions
     ∙ buffer_copy rc (largest a.bits_per_pixel) a.site.width a.site.height x.fraction y.fraction r
-    (buffer (goal.at.returns c).After-copy_block ++ rest (goal.at.returns c).After-copy_block) (rest (goal.at.returns c).After-copy_block) (omega (arith, f.side_w.low)) (omega (arith, f.side_h.low)) (rest_below a.vector.x) (rest_below a.vector.y)
-    (ap (λ (b : List ℕ). b ++ rest (goal.at.returns c).After-copy_block) (copy (goal.at.returns c).After-copy_block))
+    (buffer k ++ rest k) (rest k) (omega (arith, f.side_w.low)) (omega (arith, f.side_h.low)) (rest_below a.vector.x) (rest_below a.vector.y)
+    (ap (λ (b : List ℕ). b ++ rest k) (copy k))

@@ -31,12 +31,14 @@ passed c = sym (answered (goal.at.In-Done c).After-and_then-reply) ∙ c.in-Done
 pub interpolate-requires : goal.interpolate-requires
 unfolding quarter_reply
 interpolate-requires c =
+    let s = (goal.at.interpolate-requires c).Start in
+    let k = (goal.at.interpolate-requires c).In-Done in
     let bpp = c.args.bits_per_pixel in
-    let bits = unless-done (between 1 8 bpp) BitsPerPixel Done (first_done (bits_reply bpp) (block_in (goal.at.interpolate-requires c).Start) (passed (goal.at.interpolate-requires c).In-Done)) in
+    let bits = unless-done (between 1 8 bpp) BitsPerPixel Done (first_done (bits_reply bpp) (block_in s) (passed k)) in
     record {
       some_bits = between-low 1 8 bpp bits;
       few_bits = between-high 1 8 bpp bits;
-      ready = then_done (bits_reply bpp) (block_in (goal.at.interpolate-requires c).Start) (passed (goal.at.interpolate-requires c).In-Done);
+      ready = then_done (bits_reply bpp) (block_in s) (passed k);
     }
 
 pub returns-in-Refused : goal.returns-in-Refused

@@ -74,10 +74,11 @@ overflow_add-result c =
 
 pub returns : goal.returns
 returns c =
+    let s = (goal.at.returns c).Start in
     λ i. record {
       at = record {
-        x = (ap (λ (z : ℤ). to_z w32 (of_z w32 z)) (sum_x (goal.at.returns c).After-struct_told-4-1) ∙ to_z-of_z w32 _ (fits_x (goal.at.returns c).Start)) i;
-        y = (ap (λ (z : ℤ). to_z w32 (of_z w32 z)) (sum_y (goal.at.returns c).After-struct_told-6-1) ∙ to_z-of_z w32 _ (fits_y (goal.at.returns c).Start)) i;
+        x = (ap (λ (z : ℤ). to_z w32 (of_z w32 z)) (sum_x (goal.at.returns c).After-struct_told-4-1) ∙ to_z-of_z w32 _ (fits_x s)) i;
+        y = (ap (λ (z : ℤ). to_z w32 (of_z w32 z)) (sum_y (goal.at.returns c).After-struct_told-6-1) ∙ to_z-of_z w32 _ (fits_y s)) i;
       };
       fractions = ap₂ (λ (m n : ℕ). m + 4 * n) (quarters_x (goal.at.returns c).After-split_quarter_pel-across) (quarters_y (goal.at.returns c).After-split_quarter_pel-down) i;
     }

@@ -72,15 +72,16 @@ local c = c.eight_samples.new.out
 found : (c : After-search_eight-won) → c.search_eight-won.result.best.vector ≡ winner (start_at (goal.at.After-search_eight-won c).After-eight_samples)
 unfolding eight_best
 found c =
+    let s = (goal.at.After-search_eight-won c).Start in
     let a = c.args in
     let e = c.eight_samples.ensures in
     let t = c.eight_target-part.ensures in
     let n = c.full_pel_window-w.ensures in
-    let r = ready (goal.at.After-search_eight-won c).Start (samples_in (goal.at.After-search_eight-won c).Start) refl in
+    let r = ready s (samples_in s) refl in
     ap (λ (r : Won). r.best.vector)
     (c.search_eight-won.ensures ∙ (λ i. eight_won (e i) a.reference.now (t i) a.settings.mode (n i) a.seed)
-    ∙ eight-won (samples_in (goal.at.After-search_eight-won c).Start) a.reference.now (target_in (goal.at.After-search_eight-won c).Start) (window a.settings) a.seed a.settings.mode r refl (window_small (goal.at.After-search_eight-won c).Start)
-    (seed_taken (goal.at.After-search_eight-won c).Start))
+    ∙ eight-won (samples_in s) a.reference.now (target_in s) (window a.settings) a.seed a.settings.mode r refl (window_small s)
+    (seed_taken s))
 
 pub eight_target-part-requires : goal.eight_target-part-requires
 eight_target-part-requires c =
@@ -88,10 +89,12 @@ eight_target-part-requires c =
 
 pub refine_subpel-requires : goal.refine_subpel-requires
 refine_subpel-requires c =
+    let k = (goal.at.refine_subpel-requires c).After-eight_samples in
+    let s = (goal.at.refine_subpel-requires c).Start in
     let t = c.eight_target-part.ensures in (
-      subst (Ready (local (goal.at.refine_subpel-requires c).After-eight_samples) c.args.reference.now) (sym t) (ready (goal.at.refine_subpel-requires c).Start (local (goal.at.refine_subpel-requires c).After-eight_samples) c.eight_samples.ensures),
+      subst (Ready (local k) c.args.reference.now) (sym t) (ready s (local k) c.eight_samples.ensures),
       c.requires.settings,
-      subst (Within 4096) (sym (found (goal.at.refine_subpel-requires c).After-search_eight-won)) (winner_small (goal.at.refine_subpel-requires c).Start),
+      subst (Within 4096) (sym (found (goal.at.refine_subpel-requires c).After-search_eight-won)) (winner_small s),
     )
 
 pub returns : goal.returns

@@ -54,9 +54,10 @@ returns-in-Refused c =
 
 pub returns-in-Done : goal.returns-in-Done
 returns-in-Done c =
+    let k = (goal.at.returns-in-Done c).After-one_vector-best in
     let q = request_of (goal.at.returns-in-Done c).Start in record {
-      value = ap (estimated Done) (found (goal.at.returns-in-Done c).After-one_vector-best) ∙ one_by q (sym (done (goal.at.returns-in-Done c).In-Done));
+      value = ap (estimated Done) (found k) ∙ one_by q (sym (done (goal.at.returns-in-Done c).In-Done));
       one_vector = λ _.
-          subst (λ (v : Scored). OneVector (settings_in 0 q) (sought q) v.vector v.cost) (sym (found (goal.at.returns-in-Done c).After-one_vector-best))
+          subst (λ (v : Scored). OneVector (settings_in 0 q) (sought q) v.vector v.cost) (sym (found k))
           (one_vector_lem (settings_in 0 q) (sought q));
     }

@@ -48,9 +48,10 @@ found c =
 
 pub four_vectors-requires : goal.four_vectors-requires
 four_vectors-requires c =
+    let s = (goal.at.four_vectors-requires c).Start in
     let seed = c.args.seed in
     let e = done (goal.at.four_vectors-requires c).In-Done in
-    subst (Told (goal.at.four_vectors-requires c).Start) (sym c.settings_of-settings.ensures) (four_done (request_of (goal.at.four_vectors-requires c).Start) seed e 0, seed_done (request_of (goal.at.four_vectors-requires c).Start) seed e)
+    subst (Told s) (sym c.settings_of-settings.ensures) (four_done (request_of s) seed e 0, seed_done (request_of s) seed e)
 
 pub returns-in-Refused : goal.returns-in-Refused
 returns-in-Refused c =
@@ -62,10 +63,11 @@ returns-in-Refused c =
 
 pub returns-in-Done : goal.returns-in-Done
 returns-in-Done c =
+    let k = (goal.at.returns-in-Done c).After-four_vectors in
     let q = request_of (goal.at.returns-in-Done c).Start in
     let v = c.args.seed in record {
-      value = found (goal.at.returns-in-Done c).After-four_vectors ∙ four_by q v (sym (done (goal.at.returns-in-Done c).In-Done));
+      value = found k ∙ four_by q v (sym (done (goal.at.returns-in-Done c).In-Done));
       four_vectors = λ _.
-          subst (λ (f : EstimatedFour). FourVectors (settings_in 0 q) v (sought q) f.vectors f.sums) (sym (found (goal.at.returns-in-Done c).After-four_vectors))
+          subst (λ (f : EstimatedFour). FourVectors (settings_in 0 q) v (sought q) f.vectors f.sums) (sym (found k))
           (four_vectors (settings_in 0 q) v (sought q));
     }

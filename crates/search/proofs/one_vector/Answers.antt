@@ -71,14 +71,15 @@ copied_is c =
 found : (c : After-search_sixteen-won) → c.search_sixteen-won.result.best.vector ≡ winner (start_at (goal.at.After-search_sixteen-won c).After-luma_block)
 unfolding sixteen_best
 found c =
+    let s = (goal.at.After-search_sixteen-won c).Start in
     let a = c.args in
     let e = copied_is (goal.at.After-search_sixteen-won c).After-luma_block in
     let t = c.macroblock_target-target.ensures in
     let n = c.full_pel_window-w.ensures in
-    let r = ready (goal.at.After-search_sixteen-won c).Start (samples_in (goal.at.After-search_sixteen-won c).Start) refl in
+    let r = ready s (samples_in s) refl in
     ap (λ (r : Won). r.best.vector)
     (c.search_sixteen-won.ensures ∙ (λ i. sixteen_won (e i) a.reference.now (t i) a.settings.fcode (n i))
-    ∙ sixteen_won_lem (samples_in (goal.at.After-search_sixteen-won c).Start) a.reference.now (target_in (goal.at.After-search_sixteen-won c).Start) (window a.settings) a.settings.fcode r refl (window_small (goal.at.After-search_sixteen-won c).Start))
+    ∙ sixteen_won_lem (samples_in s) a.reference.now (target_in s) (window a.settings) a.settings.fcode r refl (window_small s))
 
 pub macroblock_target-target-requires : goal.macroblock_target-target-requires
 macroblock_target-target-requires c =
@@ -86,10 +87,12 @@ macroblock_target-target-requires c =
 
 pub refine_subpel-requires : goal.refine_subpel-requires
 refine_subpel-requires c =
+    let k = (goal.at.refine_subpel-requires c).After-luma_block in
+    let s = (goal.at.refine_subpel-requires c).Start in
     let t = c.macroblock_target-target.ensures in (
-      subst (Ready (local (goal.at.refine_subpel-requires c).After-luma_block) c.args.reference.now) (sym t) (ready (goal.at.refine_subpel-requires c).Start (local (goal.at.refine_subpel-requires c).After-luma_block) (copied_is (goal.at.refine_subpel-requires c).After-luma_block)),
+      subst (Ready (local k) c.args.reference.now) (sym t) (ready s (local k) (copied_is k)),
       c.requires.settings,
-      subst (Within 4096) (sym (found (goal.at.refine_subpel-requires c).After-search_sixteen-won)) (winner_small (goal.at.refine_subpel-requires c).Start),
+      subst (Within 4096) (sym (found (goal.at.refine_subpel-requires c).After-search_sixteen-won)) (winner_small s),
     )
 
 pub returns : goal.returns

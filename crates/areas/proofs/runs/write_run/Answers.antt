@@ -19,4 +19,5 @@ module _ (s : Start) where
 
 pub returns-in-Done : goal.returns-in-Done
 returns-in-Done c =
-    ap₂ (laid (goal.at.returns-in-Done c).Start) c.wide.ensures c.wide-in-Done.ensures ∙ ap (run_by (goal.at.returns-in-Done c).Start) (sym c.in-Done.is)
+    let s = (goal.at.returns-in-Done c).Start in
+    ap₂ (laid s) c.wide.ensures c.wide-in-Done.ensures ∙ ap (run_by s) (sym c.in-Done.is)

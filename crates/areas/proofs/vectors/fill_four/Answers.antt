@@ -54,9 +54,10 @@ bounds-sums-3 c = omega (arith, after_three (goal.at.bounds-sums-3 c).Start)
 
 pub returns : goal.returns
 returns c =
+    let s = (goal.at.returns c).Start in
     record {
       vectors_after = c.write_vector-4.ensures
-          ∙ ap (pair_at (goal.at.returns c).Start 3) (c.write_vector-3.ensures ∙ ap (pair_at (goal.at.returns c).Start 2) (c.write_vector-2.ensures ∙ ap (pair_at (goal.at.returns c).Start 1) c.write_vector.ensures))
-          ∙ vectors_are (goal.at.returns c).Start;
-      sums_after = sums_are (goal.at.returns c).Start;
+          ∙ ap (pair_at s 3) (c.write_vector-3.ensures ∙ ap (pair_at s 2) (c.write_vector-2.ensures ∙ ap (pair_at s 1) c.write_vector.ensures))
+          ∙ vectors_are s;
+      sums_after = sums_are s;
     }

@@ -44,5 +44,6 @@ returns-in-Refused c =
 
 pub returns-in-Done : goal.returns-in-Done
 returns-in-Done c =
+    let s = (goal.at.returns-in-Done c).Start in
     let e = told (goal.at.returns-in-Done c).In-Done in
-    (ap code_of e, c.fill_four.ensures.vectors_after ∙ ap (vectors_by (goal.at.returns-in-Done c).Start) e, c.fill_four.ensures.sums_after ∙ ap (sums_by (goal.at.returns-in-Done c).Start) e)
+    (ap code_of e, c.fill_four.ensures.vectors_after ∙ ap (vectors_by s) e, c.fill_four.ensures.sums_after ∙ ap (sums_by s) e)

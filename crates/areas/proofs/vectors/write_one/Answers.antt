@@ -48,9 +48,11 @@ returns-in-Refused c =
 
 pub returns-in-Done : goal.returns-in-Done
 returns-in-Done c =
+    let k = (goal.at.returns-in-Done c).In-Done in
+    let s = (goal.at.returns-in-Done c).Start in
     let a = c.args in
-    let e = told (goal.at.returns-in-Done c).In-Done in (
+    let e = told k in (
       ap code_of e,
-      c.write_vector.ensures ∙ stored_all (vector_area a.found.vector) a.vector.now (long (goal.at.returns-in-Done c).In-Done).0 ∙ ap (vector_by (goal.at.returns-in-Done c).Start) e,
-      stored_all (a.found.sum ∷ []) a.sum.now (long (goal.at.returns-in-Done c).In-Done).1 ∙ ap (sum_by (goal.at.returns-in-Done c).Start) e,
+      c.write_vector.ensures ∙ stored_all (vector_area a.found.vector) a.vector.now (long k).0 ∙ ap (vector_by s) e,
+      stored_all (a.found.sum ∷ []) a.sum.now (long k).1 ∙ ap (sum_by s) e,
     )

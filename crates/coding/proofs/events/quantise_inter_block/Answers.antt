@@ -41,20 +41,23 @@ quantised_is c =
 
 scanned_is : (c : After-forward_scan) → c.forward_scan.new.out ≡ in_scan (quantising_at (goal.at.After-forward_scan c).Start) (block_at (goal.at.After-forward_scan c).Start)
 scanned_is c =
-    let h = quantising_at (goal.at.After-forward_scan c).Start in
+    let s = (goal.at.After-forward_scan c).Start in
+    let k = (goal.at.After-forward_scan c).After-quantise_block in
+    let h = quantising_at s in
     let e = c.forward_scan.ensures in
-    left _ _ _ _ _ e.value (ap (λ (l : List ℤ). scan_reply l h.scan 64) (quantised_is (goal.at.After-forward_scan c).After-quantise_block) ∙ scan_done h c.requires.quantisable (block_at (goal.at.After-forward_scan c).Start)) e.out_after
-    ∙ ap (scanned (grid_of h.scan)) (quantised_is (goal.at.After-forward_scan c).After-quantise_block)
+    left _ _ _ _ _ e.value (ap (λ (l : List ℤ). scan_reply l h.scan 64) (quantised_is k) ∙ scan_done h c.requires.quantisable (block_at s)) e.out_after
+    ∙ ap (scanned (grid_of h.scan)) (quantised_is k)
 
 pub returns : goal.returns
 returns c =
-    let h = quantising_at (goal.at.returns c).Start in
+    let s = (goal.at.returns c).Start in
+    let h = quantising_at s in
     let l = c.forward_scan.new.out in
     let is = scanned_is (goal.at.returns c).After-forward_scan in
     let e = c.levels_to_events-events.ensures in
     let d : events_reply l (length c.args.lasts.now) (length c.args.runs.now) (length c.args.levels.now) ≡ Done =
     ap (λ (l : List ℤ). events_reply l (length c.args.lasts.now) (length c.args.runs.now) (length c.args.levels.now)) is
-    ∙ events-done h c.requires.quantisable (block_at (goal.at.returns c).Start) _ _ _ c.requires.lasts_long c.requires.runs_long c.requires.levels_long in
+    ∙ events-done h c.requires.quantisable (block_at s) _ _ _ c.requires.lasts_long c.requires.runs_long c.requires.levels_long in
     let r = events_reply_lem l _ _ _ _ e.value d in (
       events_count l _ _ _ _ e.value d ∙ ap (λ (l : List ℤ). length (events_of l)) is,
       same_areas

@@ -52,11 +52,12 @@ loop-b-preserved c =
 pub returns : goal.returns
 unfolding residual_of
 returns c =
-    let r = row_of (goal.at.returns c).Start in
+    let s = (goal.at.returns c).Start in
+    let r = row_of s in
     let six : c.loop-b.b ≡ 6 = omega arith in
     let e : c.loop-b.out ≡ rows 6 r =
-    laid_end 64 r (row_length (goal.at.returns c).Start) 6 c.loop-b.b c.args.out.now c.loop-b.out c.loop-b.invariant.3 six c.loop-b.invariant.1 in
+    laid_end 64 r (row_length s) 6 c.loop-b.b c.args.out.now c.loop-b.out c.loop-b.invariant.3 six c.loop-b.invariant.1 in
     record {
       out_after = e;
-      residual_range = subst (ResidualRange 384) (sym e) (six_in_range r (row_length (goal.at.returns c).Start) (λ b h. c.loop-b.invariant.4 b (omega arith)));
+      residual_range = subst (ResidualRange 384) (sym e) (six_in_range r (row_length s) (λ b h. c.loop-b.invariant.4 b (omega arith)));
     }

@@ -39,9 +39,10 @@ first_place s = moved_to s.args.target.corner s.args.first.from
 held : (c : After-copy_block)
     → c.copy_block.new.out ≡ copied_block (plane_in (goal.at.After-copy_block c).Start) (first_place (goal.at.After-copy_block c).Start) (width_of (goal.at.After-copy_block c).Start) 28
 held c =
+    let s = (goal.at.After-copy_block c).Start in
     let a = c.args in
     let p = c.requires in
-    copy_is a.reference.now a.target.geometry c.moved_to-at.result (first_place (goal.at.After-copy_block c).Start) (width_of (goal.at.After-copy_block c).Start) 28
+    copy_is a.reference.now a.target.geometry c.moved_to-at.result (first_place s) (width_of s) 28
     c.copy_block.result a.band.now _ p.ready.reference p.band_fits c.moved_to-at.ensures
     c.copy_block.ensures.value c.copy_block.ensures.out_after
 
@@ -130,13 +131,14 @@ loop-i-preserved c =
 
 pub returns : goal.returns
 returns c =
+    let s = (goal.at.returns c).Start in
     let l = c.loop-i in
     let a = c.args in
     let corner = a.target.corner in
     let source = a.source.now in
-    let small = subst (λ (n : ℕ). NoMoreThanZero (copied_cost zero_discount (block_in n source (plane_in (goal.at.returns c).Start) corner)) a.best) c.requires.sixteen c.requires.best_small in
+    let small = subst (λ (n : ℕ). NoMoreThanZero (copied_cost zero_discount (block_in n source (plane_in s) corner)) a.best) c.requires.sixteen c.requires.best_small in
     let all =
-    rows_all 16 source _ a.first.from (width_of (goal.at.returns c).Start) 28 zero_discount (line_of a.first) a.best a.n l.i l.b
-    (omega (arith, c.loop-i-test.false, l.invariant.0)) l.invariant.1 (plane_in (goal.at.returns c).Start) corner (held (goal.at.returns c).After-copy_block) small in
-    subst (λ (n : ℕ). l.b ≡ kept_of (copied_cost zero_discount (block_in n source (plane_in (goal.at.returns c).Start) corner)) a.best (rows_below a.first a.n))
+    rows_all 16 source _ a.first.from (width_of s) 28 zero_discount (line_of a.first) a.best a.n l.i l.b
+    (omega (arith, c.loop-i-test.false, l.invariant.0)) l.invariant.1 (plane_in s) corner (held (goal.at.returns c).After-copy_block) small in
+    subst (λ (n : ℕ). l.b ≡ kept_of (copied_cost zero_discount (block_in n source (plane_in s) corner)) a.best (rows_below a.first a.n))
     (sym c.requires.sixteen) all

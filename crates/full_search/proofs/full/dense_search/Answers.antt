@@ -53,28 +53,31 @@ slice_bounds-strip_search-end c = sym c.loop-j.invariant.1
 
 pub strip_search-b-requires : goal.strip_search-b-requires
 strip_search-b-requires c =
+    let k = (goal.at.strip_search-b-requires c).In-loop-j in
     let a = c.args in
     let strip = c.loop-j.strip in
     subst (λ (r : Row). StripReady a.source.now a.reference.now a.target strip r zero_discount c.loop-j.b) (sym c.dense_row-row.ensures)
     (record {
       ready = c.requires.0.ready;
-      from_small = row_within a.w a.best.vector c.loop-j.b.vector c.loop-j.j (best_within (goal.at.strip_search-b-requires c).In-loop-j) c.requires.1 c.loop-j-test.true;
+      from_small = row_within a.w a.best.vector c.loop-j.b.vector c.loop-j.j (best_within k) c.requires.1 c.loop-j-test.true;
       run_small = omega arith;
       strip_fits = c.loop-j.invariant.1 ∙ subst (λ (n : ℕ). 368 ≡ (n + 1 * 7) * n) (sym c.requires.0.sixteen) refl;
-      best_small = best_small (goal.at.strip_search-b-requires c).In-loop-j;
+      best_small = best_small k;
     })
 
 pub loop-j-preserved : goal.loop-j-preserved
 loop-j-preserved c =
+    let s = (goal.at.loop-j-preserved c).Start in
     let j = c.loop-j.j in (
       omega (arith, c.loop-j-test.true),
       omega (arith, c.loop-j.invariant.1),
       c.strip_search-b.ensures
-          ∙ ap (λ (r : Row). kept_of (cost_of (goal.at.loop-j-preserved c).Start) c.loop-j.b (row_of r)) c.dense_row-row.ensures
-          ∙ ap (λ (b : Scored). kept_of (cost_of (goal.at.loop-j-preserved c).Start) b (piece_of (goal.at.loop-j-preserved c).Start b.vector j)) c.loop-j.invariant.2
-          ∙ sym (kept_rows_more (cost_of (goal.at.loop-j-preserved c).Start) (piece_of (goal.at.loop-j-preserved c).Start) c.args.best j),
+          ∙ ap (λ (r : Row). kept_of (cost_of s) c.loop-j.b (row_of r)) c.dense_row-row.ensures
+          ∙ ap (λ (b : Scored). kept_of (cost_of s) b (piece_of s b.vector j)) c.loop-j.invariant.2
+          ∙ sym (kept_rows_more (cost_of s) (piece_of s) c.args.best j),
     )
 
 pub returns : goal.returns
 returns c =
-    c.loop-j.invariant.2 ∙ ap (kept_rows (cost_of (goal.at.returns c).Start) (piece_of (goal.at.returns c).Start) c.args.best) (omega (arith, c.loop-j-test.false, c.loop-j.invariant.0))
+    let s = (goal.at.returns c).Start in
+    c.loop-j.invariant.2 ∙ ap (kept_rows (cost_of s) (piece_of s) c.args.best) (omega (arith, c.loop-j-test.false, c.loop-j.invariant.0))

@@ -30,11 +30,13 @@ near_small c =
 coarse_is : (c : After-lattice_search-coarse)
     → c.lattice_search-coarse.result ≡ kept_of (cost_of (goal.at.After-lattice_search-coarse c).Start) (found (cost_of (goal.at.After-lattice_search-coarse c).Start) near_rows) (lattice_of c.args.w (block_at (goal.at.After-lattice_search-coarse c).Start))
 coarse_is c =
-    c.lattice_search-coarse.ensures ∙ ap (λ (b : Scored). kept_of (cost_of (goal.at.After-lattice_search-coarse c).Start) b (lattice_of c.args.w (block_at (goal.at.After-lattice_search-coarse c).Start))) c.near_search-near.ensures
+    let s = (goal.at.After-lattice_search-coarse c).Start in
+    c.lattice_search-coarse.ensures ∙ ap (λ (b : Scored). kept_of (cost_of s) b (lattice_of c.args.w (block_at s))) c.near_search-near.ensures
 
 coarse_small : (c : After-lattice_search-coarse) → NoMoreThanZero (cost_of (goal.at.After-lattice_search-coarse c).Start) c.lattice_search-coarse.result
 coarse_small c =
-    kept_small (cost_of (goal.at.After-lattice_search-coarse c).Start) (lattice_of c.args.w (block_at (goal.at.After-lattice_search-coarse c).Start)) c.near_search-near.result c.lattice_search-coarse.result c.lattice_search-coarse.ensures
+    let s = (goal.at.After-lattice_search-coarse c).Start in
+    kept_small (cost_of s) (lattice_of c.args.w (block_at s)) c.near_search-near.result c.lattice_search-coarse.result c.lattice_search-coarse.ensures
     (near_small (goal.at.After-lattice_search-coarse c).After-near_search-near)
 
 pub near_search-near-requires : goal.near_search-near-requires
@@ -44,27 +46,32 @@ near_search-near-requires c =
 pub returns-then-fcode-le1 : goal.returns-then-fcode-le1
 unfolding sixteen_best
 returns-then-fcode-le1 c =
-    c.near_search-near.ensures ∙ full_small (cost_of (goal.at.returns-then-fcode-le1 c).Start) c.args.fcode c.args.w (block_at (goal.at.returns-then-fcode-le1 c).Start) c.if-fcode-le1.true
+    let s = (goal.at.returns-then-fcode-le1 c).Start in
+    c.near_search-near.ensures ∙ full_small (cost_of s) c.args.fcode c.args.w (block_at s) c.if-fcode-le1.true
 
 pub lattice_search-coarse-requires : goal.lattice_search-coarse-requires
 lattice_search-coarse-requires c =
     record { ready = c.requires.0; sixteen = c.requires.1; window_small = c.requires.2; best_small = near_small (goal.at.lattice_search-coarse-requires c).After-near_search-near }
 
 pub dense_search-requires : goal.dense_search-requires
-dense_search-requires c = (
-  record { ready = c.requires.0; sixteen = c.requires.1; window_small = c.requires.2; best_small = coarse_small (goal.at.dense_search-requires c).After-lattice_search-coarse },
-  subst (λ (b : Scored). Within 1023 b.vector) (sym (coarse_is (goal.at.dense_search-requires c).After-lattice_search-coarse)) (coarse_within (cost_of (goal.at.dense_search-requires c).Start) c.args.w (block_at (goal.at.dense_search-requires c).Start) c.requires.2),
-)
+dense_search-requires c =
+    let k = (goal.at.dense_search-requires c).After-lattice_search-coarse in
+    let s = (goal.at.dense_search-requires c).Start in (
+      record { ready = c.requires.0; sixteen = c.requires.1; window_small = c.requires.2; best_small = coarse_small k },
+      subst (λ (b : Scored). Within 1023 b.vector) (sym (coarse_is k)) (coarse_within (cost_of s) c.args.w (block_at s) c.requires.2),
+    )
 
 pub returns-then-coarse-near : goal.returns-then-coarse-near
 unfolding sixteen_best
 returns-then-coarse-near c =
+    let s = (goal.at.returns-then-coarse-near c).Start in
     c.dense_search.ensures
-    ∙ full_dense (cost_of (goal.at.returns-then-coarse-near c).Start) c.args.fcode c.args.w (block_at (goal.at.returns-then-coarse-near c).Start) c.if-fcode-le1.false c.near_search-near.result c.lattice_search-coarse.result
+    ∙ full_dense (cost_of s) c.args.fcode c.args.w (block_at s) c.if-fcode-le1.false c.near_search-near.result c.lattice_search-coarse.result
     c.near_search-near.ensures c.lattice_search-coarse.ensures c.if-coarse-near.true
 
 pub returns : goal.returns
 unfolding sixteen_best
 returns c =
-    full_near (cost_of (goal.at.returns c).Start) c.args.fcode c.args.w (block_at (goal.at.returns c).Start) c.if-fcode-le1.false c.near_search-near.result c.lattice_search-coarse.result
+    let s = (goal.at.returns c).Start in
+    full_near (cost_of s) c.args.fcode c.args.w (block_at s) c.if-fcode-le1.false c.near_search-near.result c.lattice_search-coarse.result
     c.near_search-near.ensures c.lattice_search-coarse.ensures c.if-coarse-near.false

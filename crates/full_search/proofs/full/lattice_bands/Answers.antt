@@ -66,10 +66,11 @@ slice_bounds-band_search-end c = room (goal.at.slice_bounds-band_search-end c).I
 
 pub band_search-b-requires : goal.band_search-b-requires
 band_search-b-requires c =
+    let s = (goal.at.band_search-b-requires c).Start in
     let a = c.args in
     let j = c.loop-j.j in
-    let part = take (size_of (goal.at.band_search-b-requires c).Start - 0) c.loop-j.band in
-    let long = length-take (size_of (goal.at.band_search-b-requires c).Start - 0) c.loop-j.band ∙ part_length _ _ (room (goal.at.band_search-b-requires c).In-loop-j) in
+    let part = take (size_of s - 0) c.loop-j.band in
+    let long = length-take (size_of s - 0) c.loop-j.band ∙ part_length _ _ (room (goal.at.band_search-b-requires c).In-loop-j) in
     subst (λ (r : Row). BandReady a.source.now a.reference.now a.target part r c.band_rows-n.result c.loop-j.b)
     (sym c.row_below-row.ensures)
     (record {
@@ -79,7 +80,7 @@ band_search-b-requires c =
       run_small = c.requires.0.run_small;
       few = omega (arith, c.band_rows-n.ensures);
       band_fits = long;
-      best_small = kept_small (cost_of (goal.at.band_search-b-requires c).Start) (rows_below a.first j) a.best c.loop-j.b c.loop-j.invariant.2 c.requires.0.best_small;
+      best_small = kept_small (cost_of s) (rows_below a.first j) a.best c.loop-j.b c.loop-j.invariant.2 c.requires.0.best_small;
     })
 
 lent : (k : After-band_search-b) → 0 + length k.band_search-b.new.band ≡ size_of (goal.at.After-band_search-b k).Start
@@ -107,13 +108,14 @@ loop-j-smaller c =
 
 pub loop-j-preserved : goal.loop-j-preserved
 loop-j-preserved c =
+    let s = (goal.at.loop-j-preserved c).Start in
     let a = c.args in
     let b = c.loop-j.b in
     let n = c.band_rows-n.result in (
       omega (arith, c.loop-j-test.true, c.band_rows-n.ensures),
-      put_length c.loop-j.band c.band_search-b.new.band 0 (size_of (goal.at.loop-j-preserved c).Start) (lent (goal.at.loop-j-preserved c).After-band_search-b) (room (goal.at.loop-j-preserved c).In-loop-j) ∙ c.loop-j.invariant.1,
-      band_more (cost_of (goal.at.loop-j-preserved c).Start) a.best b c.band_search-b.result a.first c.loop-j.j n c.loop-j.invariant.2
-          (c.band_search-b.ensures ∙ ap (λ (r : Row). kept_of (cost_of (goal.at.loop-j-preserved c).Start) b (rows_below r n)) c.row_below-row.ensures),
+      put_length c.loop-j.band c.band_search-b.new.band 0 (size_of s) (lent (goal.at.loop-j-preserved c).After-band_search-b) (room (goal.at.loop-j-preserved c).In-loop-j) ∙ c.loop-j.invariant.1,
+      band_more (cost_of s) a.best b c.band_search-b.result a.first c.loop-j.j n c.loop-j.invariant.2
+          (c.band_search-b.ensures ∙ ap (λ (r : Row). kept_of (cost_of s) b (rows_below r n)) c.row_below-row.ensures),
     )
 
 pub shape_of-band : goal.shape_of-band

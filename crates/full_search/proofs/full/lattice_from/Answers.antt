@@ -54,6 +54,8 @@ overflow_sub-result-2 c = negative_fits c.back-2.result (small_2 (goal.at.overfl
 
 pub returns : goal.returns
 returns c =
-    let x = negative_read c.back.result (small (goal.at.returns c).After-back) ∙ ap (λ (n : ℕ). neg_ℤ (pos n)) (across_is (goal.at.returns c).After-back) in
-    let y = negative_read c.back-2.result (small_2 (goal.at.returns c).After-back-2) ∙ ap (λ (n : ℕ). neg_ℤ (pos n)) (along_is (goal.at.returns c).After-back-2) in
+    let k = (goal.at.returns c).After-back in
+    let l = (goal.at.returns c).After-back-2 in
+    let x = negative_read c.back.result (small k) ∙ ap (λ (n : ℕ). neg_ℤ (pos n)) (across_is k) in
+    let y = negative_read c.back-2.result (small_2 k-2) ∙ ap (λ (n : ℕ). neg_ℤ (pos n)) (along_is k-2) in
     λ i. record { x = x i; y = y i }

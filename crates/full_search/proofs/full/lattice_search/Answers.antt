@@ -130,7 +130,9 @@ pub returns-then-count-le64 : goal.returns-then-count-le64
 returns-then-count-le64 c = rows-kept (goal.at.returns-then-count-le64 c).After-places-lines c.narrow_lattice.result c.narrow_lattice.ensures
 
 pub wide_lattice-requires : goal.wide_lattice-requires
-wide_lattice-requires c = rows_ready (goal.at.wide_lattice-requires c).After-places-lines _ 2048 (omega (arith, few_columns (goal.at.wide_lattice-requires c).After-places-lines))
+wide_lattice-requires c =
+    let k = (goal.at.wide_lattice-requires c).After-places-lines in
+    rows_ready k _ 2048 (omega (arith, few_columns k))
 
 pub returns : goal.returns
 returns c = rows-kept (goal.at.returns c).After-places-lines c.wide_lattice.result c.wide_lattice.ensures

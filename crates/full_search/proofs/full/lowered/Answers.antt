@@ -23,4 +23,6 @@ pub overflow_sub-result : goal.overflow_sub-result
 overflow_sub-result c = subst (SFits w32) (sym (rest_is (goal.at.overflow_sub-result c).Start)) (rest_fits (goal.at.overflow_sub-result c).Start)
 
 pub returns : goal.returns
-returns c = ap (λ (v : ℤ). to_z w32 (of_z w32 v)) (rest_is (goal.at.returns c).Start) ∙ to_z-of_z w32 (c.args.z -ℤ pos c.args.by) (rest_fits (goal.at.returns c).Start)
+returns c =
+    let s = (goal.at.returns c).Start in
+    ap (λ (v : ℤ). to_z w32 (of_z w32 v)) (rest_is s) ∙ to_z-of_z w32 (c.args.z -ℤ pos c.args.by) (rest_fits s)

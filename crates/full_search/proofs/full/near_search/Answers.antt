@@ -42,7 +42,8 @@ near_rows-requires c = (
 
 pub returns : goal.returns
 returns c =
+    let s = (goal.at.returns c).Start in
     let a = c.args in
     let corner = a.target.corner in
-    subst (λ (n : ℕ). c.near_rows.result ≡ found (copied_cost zero_discount (block_in n a.source.now (plane_in (goal.at.returns c).Start) corner)) near_rows)
-    (sym c.requires.1) (c.near_rows.ensures.kept (plane_in (goal.at.returns c).Start) corner (held (goal.at.returns c).After-copy_block))
+    subst (λ (n : ℕ). c.near_rows.result ≡ found (copied_cost zero_discount (block_in n a.source.now (plane_in s) corner)) near_rows)
+    (sym c.requires.1) (c.near_rows.ensures.kept (plane_in s) corner (held (goal.at.returns c).After-copy_block))

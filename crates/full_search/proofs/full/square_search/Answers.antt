@@ -34,9 +34,10 @@ held : (c : After-copy_block)
     c.copy_block.new.out
     ≡ copied_block (plane_of a.reference.now a.target.geometry) (first_place (goal.at.After-copy_block c).Start) (width_of (goal.at.After-copy_block c).Start) (width_of (goal.at.After-copy_block c).Start)
 held c =
+    let s = (goal.at.After-copy_block c).Start in
     let a = c.args in
     let p = c.requires in
-    copy_is a.reference.now a.target.geometry c.moved_to-at.result (first_place (goal.at.After-copy_block c).Start) (width_of (goal.at.After-copy_block c).Start) (width_of (goal.at.After-copy_block c).Start)
+    copy_is a.reference.now a.target.geometry c.moved_to-at.result (first_place s) (width_of s) (width_of s)
     c.copy_block.result a.patch.now _ p.ready.reference p.patch_fits c.moved_to-at.ensures
     c.copy_block.ensures.value c.copy_block.ensures.out_after
 
@@ -86,10 +87,11 @@ overflow_mul-lines c =
 
 pub row_search-b-requires : goal.row_search-b-requires
 row_search-b-requires c =
-    let s = start (goal.at.row_search-b-requires c).After-copy_block in
+    let k = (goal.at.row_search-b-requires c).After-copy_block in
+    let s = start k in
     let a = s.args in
     let side = a.target.side in
-    let long = copy_length (plane_of a.reference.now a.target.geometry) (first_place s) (width_of s) (width_of s) _ (held (goal.at.row_search-b-requires c).After-copy_block) in
+    let long = copy_length (plane_of a.reference.now a.target.geometry) (first_place s) (width_of s) (width_of s) _ (held k) in
     let patch = c.copy_block.new.out in
     let lines : Lines = record { first = c.loop-j.j * width_of s; stride = width_of s } in
     subst (λ (r : Row). RowReady side a.source.now patch lines r) (sym c.square_row-row.ensures)

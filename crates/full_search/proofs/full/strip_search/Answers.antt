@@ -23,9 +23,10 @@ held : (c : After-copy_block)
     c.copy_block.new.out
     ≡ copied_block (plane_of a.reference.now a.target.geometry) (first_place (goal.at.After-copy_block c).Start) (width_of (goal.at.After-copy_block c).Start) a.target.side
 held c =
+    let s = (goal.at.After-copy_block c).Start in
     let a = c.args in
     let p = c.requires in
-    copy_is a.reference.now a.target.geometry c.moved_to-at.result (first_place (goal.at.After-copy_block c).Start) (width_of (goal.at.After-copy_block c).Start) a.target.side
+    copy_is a.reference.now a.target.geometry c.moved_to-at.result (first_place s) (width_of s) a.target.side
     c.copy_block.result a.strip.now _ p.ready.reference p.strip_fits c.moved_to-at.ensures
     c.copy_block.ensures.value c.copy_block.ensures.out_after
 
@@ -43,10 +44,11 @@ moved_to-at-requires c =
 
 pub row_search-requires : goal.row_search-requires
 row_search-requires c =
+    let s = (goal.at.row_search-requires c).Start in
     let a = c.args in
     let p = c.requires in
     let side = a.target.side in
-    let long = copy_length (plane_of a.reference.now a.target.geometry) (first_place (goal.at.row_search-requires c).Start) (width_of (goal.at.row_search-requires c).Start) side _ (held (goal.at.row_search-requires c).After-copy_block) in
+    let long = copy_length (plane_of a.reference.now a.target.geometry) (first_place s) (width_of s) side _ (held (goal.at.row_search-requires c).After-copy_block) in
     record {
       is_side_is = p.ready.is_side_is;
       source_fits = p.ready.source_fits;

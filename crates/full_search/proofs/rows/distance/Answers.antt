@@ -14,7 +14,11 @@ along : (c : After-magnitude-y) → c.magnitude-y.result ≡ nat_abs c.args.d.y
 along c = c.magnitude-y.ensures ∙ ap nat_abs (of_bits_lem c.args.d.y c.struct_told-2-1.given.1.0.1)
 
 pub returns-then-x-y : goal.returns-then-x-y
-returns-then-x-y c = omega (arith, across (goal.at.returns-then-x-y c).After-magnitude-y, along (goal.at.returns-then-x-y c).After-magnitude-y, c.if-x-y.true)
+returns-then-x-y c =
+    let k = (goal.at.returns-then-x-y c).After-magnitude-y in
+    omega (arith, across k, along k, c.if-x-y.true)
 
 pub returns-else-x-y : goal.returns-else-x-y
-returns-else-x-y c = omega (arith, across (goal.at.returns-else-x-y c).After-magnitude-y, along (goal.at.returns-else-x-y c).After-magnitude-y, c.if-x-y.false)
+returns-else-x-y c =
+    let k = (goal.at.returns-else-x-y c).After-magnitude-y in
+    omega (arith, across k, along k, c.if-x-y.false)

@@ -49,7 +49,8 @@ tall_is c =
 
 pub returns : goal.returns
 returns c =
+    let k = (goal.at.returns c).After-magnitude-tall in
     let row = c.args.row in
     let last = subst (λ (v : MotionVector). distance v ≤ row.outer) c.right-last.ensures (omega (arith, c.distance-2.ensures, c.if-row-distance-2.false)) in
-    λ t. listed_whole row (omega (arith, c.if-row-eq0.false)) (omega (arith, tall_is (goal.at.returns c).After-magnitude-tall, c.if-tall-row.false)) (λ z. c.if-tall-eq0.false (tall_is (goal.at.returns c).After-magnitude-tall ∙ z))
+    λ t. listed_whole row (omega (arith, c.if-row-eq0.false)) (omega (arith, tall_is k, c.if-tall-row.false)) (λ z. c.if-tall-eq0.false (tall_is k ∙ z))
     (omega (arith, c.distance.ensures, c.if-row-distance.false)) last

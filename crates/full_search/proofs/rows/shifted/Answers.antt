@@ -23,4 +23,6 @@ pub overflow_add-result : goal.overflow_add-result
 overflow_add-result c = subst (SFits w32) (sym (sum_is (goal.at.overflow_add-result c).Start)) (sum_fits (goal.at.overflow_add-result c).Start)
 
 pub returns : goal.returns
-returns c = ap (λ (v : ℤ). to_z w32 (of_z w32 v)) (sum_is (goal.at.returns c).Start) ∙ to_z-of_z w32 (c.args.z +ℤ pos c.args.by) (sum_fits (goal.at.returns c).Start)
+returns c =
+    let s = (goal.at.returns c).Start in
+    ap (λ (v : ℤ). to_z w32 (of_z w32 v)) (sum_is s) ∙ to_z-of_z w32 (c.args.z +ℤ pos c.args.by) (sum_fits s)

@@ -27,10 +27,14 @@ minus_down s = minus_below s.args.a s.args.b (omega arith) (omega arith)
 
 -- what the test says
 low : (c : Then-d-lt0) → above (minus (goal.at.Then-d-lt0 c).Start) < below (minus (goal.at.Then-d-lt0 c).Start)
-low c = let z = minus (goal.at.Then-d-lt0 c).Start in omega (arith, lt_true z (pos 0) (sym (lt_read w32 z (pos 0) (overflow_sub-d (goal.at.Then-d-lt0 c).Start) (sfits_lit tt)) ∙ c.if-d-lt0.true))
+low c =
+    let s = (goal.at.Then-d-lt0 c).Start in
+    let z = minus s in omega (arith, lt_true z (pos 0) (sym (lt_read w32 z (pos 0) (overflow_sub-d s) (sfits_lit tt)) ∙ c.if-d-lt0.true))
 
 high : (c : Else-d-lt0) → below (minus (goal.at.Else-d-lt0 c).Start) ≤ above (minus (goal.at.Else-d-lt0 c).Start)
-high c = let z = minus (goal.at.Else-d-lt0 c).Start in omega (arith, lt_false z (pos 0) (sym (lt_read w32 z (pos 0) (overflow_sub-d (goal.at.Else-d-lt0 c).Start) (sfits_lit tt)) ∙ c.if-d-lt0.false))
+high c =
+    let s = (goal.at.Else-d-lt0 c).Start in
+    let z = minus s in omega (arith, lt_false z (pos 0) (sym (lt_read w32 z (pos 0) (overflow_sub-d s) (sfits_lit tt)) ∙ c.if-d-lt0.false))
 
 -- the difference with its sign turned
 abbrev turned : Start → ℤ
@@ -43,26 +47,38 @@ turned_down : (s : Start) → below (turned s) ≡ s.args.a - s.args.b
 turned_down s = turned_below w32 (minus s) (overflow_sub-d s) ∙ minus_up s
 
 pub overflow_sub-result : goal.overflow_sub-result
-overflow_sub-result c = parts_fit (turned (goal.at.overflow_sub-result c).Start) (omega (arith, turned_up (goal.at.overflow_sub-result c).Start)) (omega (arith, turned_down (goal.at.overflow_sub-result c).Start))
+overflow_sub-result c =
+    let s = (goal.at.overflow_sub-result c).Start in
+    parts_fit (turned s) (omega (arith, turned_up s)) (omega (arith, turned_down s))
 
 not_below_lem : (c : Then-d-lt0) → below (turned (goal.at.Then-d-lt0 c).Start) ≡ 0
-not_below_lem c = omega (arith, low c, minus_up (goal.at.Then-d-lt0 c).Start, minus_down (goal.at.Then-d-lt0 c).Start, turned_down (goal.at.Then-d-lt0 c).Start)
+not_below_lem c =
+    let s = (goal.at.Then-d-lt0 c).Start in
+    omega (arith, low c, minus_up s, minus_down s, turned_down s)
 
 pub overflow_cast-result : goal.overflow_cast-result
-overflow_cast-result c = cast_read w32 w32 (turned (goal.at.overflow_cast-result c).Start) tt (overflow_sub-result (goal.at.overflow_cast-result c).Then-d-lt0) (not_below_lem (goal.at.overflow_cast-result c).Then-d-lt0)
+overflow_cast-result c =
+    let k = (goal.at.overflow_cast-result c).Then-d-lt0 in
+    cast_read w32 w32 (turned (goal.at.overflow_cast-result c).Start) tt (overflow_sub-result k) (not_below_lem k)
 
 not_below_2 : (c : Else-d-lt0) → below (minus (goal.at.Else-d-lt0 c).Start) ≡ 0
 not_below_2 c = omega (arith, high c, minus_up (goal.at.Else-d-lt0 c).Start, minus_down (goal.at.Else-d-lt0 c).Start)
 
 pub overflow_cast-result-else-d-lt0 : goal.overflow_cast-result-else-d-lt0
-overflow_cast-result-else-d-lt0 c = cast_read w32 w32 (minus (goal.at.overflow_cast-result-else-d-lt0 c).Start) tt (overflow_sub-d (goal.at.overflow_cast-result-else-d-lt0 c).Start) (not_below_2 (goal.at.overflow_cast-result-else-d-lt0 c).Else-d-lt0)
+overflow_cast-result-else-d-lt0 c =
+    let s = (goal.at.overflow_cast-result-else-d-lt0 c).Start in
+    cast_read w32 w32 (minus s) tt (overflow_sub-d s) (not_below_2 (goal.at.overflow_cast-result-else-d-lt0 c).Else-d-lt0)
 
 pub returns-then-d-lt0 : goal.returns-then-d-lt0
 returns-then-d-lt0 c =
-    let e = cast_value w32 (turned (goal.at.returns-then-d-lt0 c).Start) (overflow_sub-result (goal.at.returns-then-d-lt0 c).Then-d-lt0) (not_below_lem (goal.at.returns-then-d-lt0 c).Then-d-lt0) in
-    (omega (arith, turned_up (goal.at.returns-then-d-lt0 c).Start, turned_down (goal.at.returns-then-d-lt0 c).Start, not_below_lem (goal.at.returns-then-d-lt0 c).Then-d-lt0), omega (arith, turned_up (goal.at.returns-then-d-lt0 c).Start))
+    let s = (goal.at.returns-then-d-lt0 c).Start in
+    let k = (goal.at.returns-then-d-lt0 c).Then-d-lt0 in
+    let e = cast_value w32 (turned s) (overflow_sub-result k) (not_below_lem k) in
+    (omega (arith, turned_up s, turned_down s, not_below_lem k), omega (arith, turned_up s))
 
 pub returns-else-d-lt0 : goal.returns-else-d-lt0
 returns-else-d-lt0 c =
-    let e = cast_value w32 (minus (goal.at.returns-else-d-lt0 c).Start) (overflow_sub-d (goal.at.returns-else-d-lt0 c).Start) (not_below_2 (goal.at.returns-else-d-lt0 c).Else-d-lt0) in
-    (omega (arith, minus_up (goal.at.returns-else-d-lt0 c).Start, minus_down (goal.at.returns-else-d-lt0 c).Start, not_below_2 (goal.at.returns-else-d-lt0 c).Else-d-lt0), omega (arith, minus_up (goal.at.returns-else-d-lt0 c).Start))
+    let s = (goal.at.returns-else-d-lt0 c).Start in
+    let k = (goal.at.returns-else-d-lt0 c).Else-d-lt0 in
+    let e = cast_value w32 (minus s) (overflow_sub-d s) (not_below_2 k) in
+    (omega (arith, minus_up s, minus_down s, not_below_2 k), omega (arith, minus_up s))

@@ -36,14 +36,17 @@ module _ (c : After-struct_told-then-columns_inside-1) where
   column_is = cast_value w32 x fits starts
 
 pub overflow_cast-at : goal.overflow_cast-at
-overflow_cast-at c = cast_read w32 w64 (x (goal.at.overflow_cast-at c).After-struct_told-then-columns_inside-1) tt (fits (goal.at.overflow_cast-at c).After-struct_told-then-columns_inside-1) (starts (goal.at.overflow_cast-at c).After-struct_told-then-columns_inside-1)
+overflow_cast-at c =
+    let k = (goal.at.overflow_cast-at c).After-struct_told-then-columns_inside-1 in
+    cast_read w32 w64 (x k) tt (fits k) (starts k)
 
 pub plane_rows-requires : goal.plane_rows-requires
 plane_rows-requires c =
+    let k = (goal.at.plane_rows-requires c).After-struct_told-then-columns_inside-1 in
     let n = c.samples_for-columns in
     record {
       held = (usable _ _ c.requires.0.reference).hold;
-      inside = omega (arith, column_is (goal.at.plane_rows-requires c).After-struct_told-then-columns_inside-1, n.ensures, inside_ends (x (goal.at.plane_rows-requires c).After-struct_told-then-columns_inside-1) n.result c.args.geometry.width (lies (goal.at.plane_rows-requires c).After-struct_told-then-columns_inside-1));
+      inside = omega (arith, column_is k, n.ensures, inside_ends (x k) n.result c.args.geometry.width (lies k));
       narrow = omega (arith, c.requires.0.narrow);
       low = omega (arith, c.requires.0.low);
       some_half_is = c.requires.1;
@@ -53,7 +56,8 @@ plane_rows-requires c =
 
 pub returns-then-columns_inside : goal.returns-then-columns_inside
 returns-then-columns_inside c =
+    let k = (goal.at.returns-then-columns_inside c).After-struct_told-then-columns_inside-1 in
     let a = c.args in
     c.plane_rows.ensures
     ∙ ap₂ (λ (z y : ℤ). raster a.site.width a.site.height (sample_by (plane_of a.samples.now a.geometry) z y a.halves))
-    (ap pos (column_is (goal.at.returns-then-columns_inside c).After-struct_told-then-columns_inside-1) ∙ above-pos (x (goal.at.returns-then-columns_inside c).After-struct_told-then-columns_inside-1) (starts (goal.at.returns-then-columns_inside c).After-struct_told-then-columns_inside-1)) (of_bits_lem a.at.y c.struct_told-then-columns_inside-2-1.given.1.0.1)
+    (ap pos (column_is k) ∙ above-pos (x k) (starts k)) (of_bits_lem a.at.y c.struct_told-then-columns_inside-2-1.given.1.0.1)

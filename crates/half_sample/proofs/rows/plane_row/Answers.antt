@@ -77,25 +77,31 @@ slice_bounds-average_row-end-2 c = omega (arith, low_end (goal.at.slice_bounds-a
 
 pub average_row-requires : goal.average_row-requires
 average_row-requires c =
+    let s = (goal.at.average_row-requires c).Start in
+    let k = (goal.at.average_row-requires c).After-clamp_coordinate in
+    let l = (goal.at.average_row-requires c).After-clamp_coordinate-2 in
     let n = c.samples_for-columns.result in
     let e = columns_is (goal.at.average_row-requires c).After-samples_for-columns in
     record {
-      top_fits = part_length (from (goal.at.average_row-requires c).Start).samples (top_row (goal.at.average_row-requires c).After-clamp_coordinate * (from (goal.at.average_row-requires c).Start).stride + c.args.column) n (omega (arith, top_end (goal.at.average_row-requires c).After-clamp_coordinate)) ∙ e;
-      low_fits = part_length (from (goal.at.average_row-requires c).Start).samples (low_row (goal.at.average_row-requires c).After-clamp_coordinate-2 * (from (goal.at.average_row-requires c).Start).stride + c.args.column) n (omega (arith, low_end (goal.at.average_row-requires c).After-clamp_coordinate-2)) ∙ e;
+      top_fits = part_length (from s).samples (top_row k * (from s).stride + c.args.column) n (omega (arith, top_end k)) ∙ e;
+      low_fits = part_length (from s).samples (low_row k-2 * (from s).stride + c.args.column) n (omega (arith, low_end k-2)) ∙ e;
       some_half_is = c.requires.some_half_is;
       rc_small = c.requires.rc_small;
     }
 
 pub returns : goal.returns
 returns c =
+    let s = (goal.at.returns c).Start in
+    let k = (goal.at.returns c).After-clamp_coordinate in
+    let l = (goal.at.returns c).After-clamp_coordinate-2 in
     let a = c.args in
     let n = c.samples_for-columns.result in
     let e = columns_is (goal.at.returns c).After-samples_for-columns in
-    let at = top_row (goal.at.returns c).After-clamp_coordinate * (from (goal.at.returns c).Start).stride + a.column in
-    let under = low_row (goal.at.returns c).After-clamp_coordinate-2 * (from (goal.at.returns c).Start).stride + a.column in
-    let w : a.column + n ≤ (from (goal.at.returns c).Start).width = omega (arith, c.requires.inside) in
+    let at = top_row k * (from s).stride + a.column in
+    let under = low_row k-2 * (from s).stride + a.column in
+    let w : a.column + n ≤ (from s).width = omega (arith, c.requires.inside) in
     c.average_row.ensures
-    ∙ averaged_row (from (goal.at.returns c).Start) (pos a.column) a.at.y
-    (take (at + n - at) (drop at (from (goal.at.returns c).Start).samples)) (take (under + n - under) (drop under (from (goal.at.returns c).Start).samples)) a.halves (length a.out.now) a.j
-    (λ i h. inside_row (from (goal.at.returns c).Start) a.column (a.at.y +ℤ pos a.j) (top_row (goal.at.returns c).After-clamp_coordinate) n i (top_is (goal.at.returns c).After-clamp_coordinate) w (omega arith))
-    (λ i h. inside_row (from (goal.at.returns c).Start) a.column (a.at.y +ℤ pos (a.j + 1)) (low_row (goal.at.returns c).After-clamp_coordinate-2) n i (low_is (goal.at.returns c).After-clamp_coordinate-2) w (omega arith))
+    ∙ averaged_row (from s) (pos a.column) a.at.y
+    (take (at + n - at) (drop at (from s).samples)) (take (under + n - under) (drop under (from s).samples)) a.halves (length a.out.now) a.j
+    (λ i h. inside_row (from s) a.column (a.at.y +ℤ pos a.j) (top_row k) n i (top_is k) w (omega arith))
+    (λ i h. inside_row (from s) a.column (a.at.y +ℤ pos (a.j + 1)) (low_row k-2) n i (low_is k-2) w (omega arith))

@@ -30,18 +30,19 @@ module _ (s : Start) where
 
 pub returns : goal.returns
 returns c =
+    let s = (goal.at.returns c).Start in
     let a = c.args in
     let is = c.is_set-first.ensures in
     let e = c.quantise_inter_block-told.ensures in
     let w = c.write_count.ensures in
-    let told = e.0 ∙ ap (told_for (goal.at.returns c).Start) is in
+    let told = e.0 ∙ ap (told_for s) is in
     let first = is_set a.first_method in
     let old = areas a.lasts.now a.runs.now a.levels.now in (
       w.value ∙ ap (λ (t : Events). code_of t.reply) told,
       e.1
-          ∙ ap (λ (b : Bool). done c.quantise_inter_block-told.result.reply (block_areas (by (goal.at.returns c).Start b) a.residual.now) old) is
-          ∙ ap (λ (t : Events). done t.reply (block_areas (by (goal.at.returns c).Start first) a.residual.now) old) told,
+          ∙ ap (λ (b : Bool). done c.quantise_inter_block-told.result.reply (block_areas (by s b) a.residual.now) old) is
+          ∙ ap (λ (t : Events). done t.reply (block_areas (by s first) a.residual.now) old) told,
       w.count_after
           ∙ ap (λ (t : Events). done t.reply t.count a.count.now) told
-          ∙ done_again (reply_for (goal.at.returns c).Start first) (λ (n : ℕ). n) (count_of (by (goal.at.returns c).Start first) a.residual.now) 0 a.count.now,
+          ∙ done_again (reply_for s first) (λ (n : ℕ). n) (count_of (by s first) a.residual.now) 0 a.count.now,
     )

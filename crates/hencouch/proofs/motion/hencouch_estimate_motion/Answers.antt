@@ -25,6 +25,7 @@ module _ (s : Start) where
 
 pub returns : goal.returns
 returns c =
+    let s = (goal.at.returns c).Start in
     let e = c.estimate_motion-found.ensures.value in
     let o = c.write_one.ensures in
-    (o.0 ∙ ap (λ (x : Estimated). code_of (reply_for (goal.at.returns c).Start x)) e, o.1 ∙ ap (vector_for (goal.at.returns c).Start) e, o.2 ∙ ap (sum_for (goal.at.returns c).Start) e)
+    (o.0 ∙ ap (λ (x : Estimated). code_of (reply_for s x)) e, o.1 ∙ ap (vector_for s) e, o.2 ∙ ap (sum_for s) e)

@@ -45,6 +45,7 @@ seed_is c =
 
 pub returns : goal.returns
 returns c =
-    let e = c.estimate_motion_4mv-found.ensures.value ∙ ap (answer_for (goal.at.returns c).Start) (seed_is (goal.at.returns c).After-vector_of-seed) in
+    let s = (goal.at.returns c).Start in
+    let e = c.estimate_motion_4mv-found.ensures.value ∙ ap (answer_for s) (seed_is (goal.at.returns c).After-vector_of-seed) in
     let o = c.write_four.ensures in
-    (o.0 ∙ ap (λ (x : EstimatedFour). code_of (reply_for (goal.at.returns c).Start x)) e, o.1 ∙ ap (vectors_for (goal.at.returns c).Start) e, o.2 ∙ ap (sums_for (goal.at.returns c).Start) e)
+    (o.0 ∙ ap (λ (x : EstimatedFour). code_of (reply_for s x)) e, o.1 ∙ ap (vectors_for s) e, o.2 ∙ ap (sums_for s) e)

@@ -44,7 +44,9 @@ corner_is c =
 
 pub returns : goal.returns
 returns c =
+    let s = (goal.at.returns c).Start in
+    let k = (goal.at.returns c).After-point_of-corner in
     let m = ap OneMv (vector_is (goal.at.returns c).After-vector_of-vector) in
     let e = c.predict_luma_macroblock-reply.ensures in
-    let r = e.value ∙ ap₂ (reply_for (goal.at.returns c).Start) m (corner_is (goal.at.returns c).After-point_of-corner) in
-    (c.code.ensures ∙ ap code_of r, e.out_after ∙ λ i. done (r i) (luma_for (goal.at.returns c).Start (m i) (corner_is (goal.at.returns c).After-point_of-corner i)) c.args.out.now)
+    let r = e.value ∙ ap₂ (reply_for s) m (corner_is k) in
+    (c.code.ensures ∙ ap code_of r, e.out_after ∙ λ i. done (r i) (luma_for s (m i) (corner_is k i)) c.args.out.now)

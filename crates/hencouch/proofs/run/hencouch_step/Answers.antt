@@ -31,6 +31,7 @@ module _ (s : Start) where
 
 pub returns : goal.returns
 returns c =
-    let settled = ap (λ (z : Settings). stepped_by (goal.at.returns c).Start z c.run_of-before.result) c.settings_of-settings.ensures in
-    stepped_out (stepped_from (goal.at.returns c).Start) _ _ _ _ _ c.args.run.now _ (lent (goal.at.returns c).Start) (c.step-told.ensures.0 ∙ settled) c.run_of-before.ensures
+    let s = (goal.at.returns c).Start in
+    let settled = ap (λ (z : Settings). stepped_by s z c.run_of-before.result) c.settings_of-settings.ensures in
+    stepped_out (stepped_from s) _ _ _ _ _ c.args.run.now _ (lent s) (c.step-told.ensures.0 ∙ settled) c.run_of-before.ensures
     c.code.ensures c.write_run.ensures c.write_record.ensures

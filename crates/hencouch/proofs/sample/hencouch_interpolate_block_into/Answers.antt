@@ -40,7 +40,9 @@ site_is c =
 
 pub returns : goal.returns
 returns c =
+    let s = (goal.at.returns c).Start in
+    let k = (goal.at.returns c).After-site_of-site in
     let v = vector_is (goal.at.returns c).After-vector_of-vector in
     let e = c.interpolate_block_into-reply.ensures in
-    let r = e.value ∙ ap₂ (reply_for (goal.at.returns c).Start) v (site_is (goal.at.returns c).After-site_of-site) in
-    (c.code.ensures ∙ ap code_of r, e.out_after ∙ λ i. done (r i) (block_for (goal.at.returns c).Start (v i) (site_is (goal.at.returns c).After-site_of-site i)) c.args.out.now)
+    let r = e.value ∙ ap₂ (reply_for s) v (site_is k) in
+    (c.code.ensures ∙ ap code_of r, e.out_after ∙ λ i. done (r i) (block_for s (v i) (site_is k i)) c.args.out.now)

@@ -29,6 +29,7 @@ module _ (s : Start) where
 
 pub returns : goal.returns
 returns c =
-    let settled = ap (λ (z : Settings). answer_of (asked_by (goal.at.returns c).Start z)) c.settings_of-settings.ensures in
-    record_laid_out (reply_of (asked (goal.at.returns c).Start)) (asked (goal.at.returns c).Start) _ _ _ (lent (goal.at.returns c).Start) (c.code_macroblock-coded.ensures.0 ∙ settled)
+    let s = (goal.at.returns c).Start in
+    let settled = ap (λ (z : Settings). answer_of (asked_by s z)) c.settings_of-settings.ensures in
+    record_laid_out (reply_of (asked s)) (asked s) _ _ _ (lent s) (c.code_macroblock-coded.ensures.0 ∙ settled)
     c.code.ensures c.write_record.ensures

@@ -34,6 +34,7 @@ module _ (s : Start) where
 
 pub returns : goal.returns
 returns c =
-    let settled = ap₂ (answered_by (goal.at.returns c).Start) c.settings_of-settings.ensures c.reference_geometry-geometry.ensures in
-    record_laid_out (predicted_reply_of (asked (goal.at.returns c).Start)) (predicting (asked (goal.at.returns c).Start)) _ _ _ (lent (goal.at.returns c).Start) (c.code_predicted_macroblock-coded.ensures.0 ∙ settled)
+    let s = (goal.at.returns c).Start in
+    let settled = ap₂ (answered_by s) c.settings_of-settings.ensures c.reference_geometry-geometry.ensures in
+    record_laid_out (predicted_reply_of (asked s)) (predicting (asked s)) _ _ _ (lent s) (c.code_predicted_macroblock-coded.ensures.0 ∙ settled)
     c.code.ensures c.write_record.ensures

@@ -41,16 +41,19 @@ residual_is c = left _ _ _ _ _ (residual-done c) refl c.macroblock_residual.ensu
 -- its events
 counted_is : (c : After-quantise_inter_residual-counted) → c.quantise_inter_residual-counted.result ≡ record { reply = Done; counts = counts_of (quantising_at (goal.at.After-quantise_inter_residual-counted c).Start) (local (goal.at.After-quantise_inter_residual-counted c).After-macroblock_residual) }
 counted_is c =
+    let k = (goal.at.After-quantise_inter_residual-counted c).After-macroblock_residual in
+    let s = (goal.at.After-quantise_inter_residual-counted c).Start in
     let p = c.requires in
     coding_taken _ _ _ _ _ _ c.quantise_inter_residual-counted.ensures.0 p.quantisable
-    (ap length (residual_is (goal.at.After-quantise_inter_residual-counted c).After-macroblock_residual) ∙ residual-length (source_at (goal.at.After-quantise_inter_residual-counted c).Start) (lent_at (goal.at.After-quantise_inter_residual-counted c).Start))
-    (c.macroblock_residual.ensures.residual_range (residual-done (goal.at.After-quantise_inter_residual-counted c).After-macroblock_residual))
+    (ap length (residual_is k) ∙ residual-length (source_at s) (lent_at s))
+    (c.macroblock_residual.ensures.residual_range (residual-done k))
     (search (p.lasts_long, p.runs_long)) (search (p.lasts_long, p.runs_long)) (search p.levels_long)
 
 pub returns : goal.returns
 returns c =
+    let k = (goal.at.returns c).After-macroblock_residual in
     let by = quantising_at (goal.at.returns c).Start in
     let is = counted_is (goal.at.returns c).After-quantise_inter_residual-counted in (
-      ap (λ (x : Counted). x.counts) is ∙ ap (counts_of by) (residual_is (goal.at.returns c).After-macroblock_residual),
-      left _ Done _ _ _ (ap (λ (x : Counted). x.reply) is) refl c.quantise_inter_residual-counted.ensures.1 ∙ ap (areas_of by) (residual_is (goal.at.returns c).After-macroblock_residual),
+      ap (λ (x : Counted). x.counts) is ∙ ap (counts_of by) (residual_is k),
+      left _ Done _ _ _ (ap (λ (x : Counted). x.reply) is) refl c.quantise_inter_residual-counted.ensures.1 ∙ ap (areas_of by) (residual_is k),
     )

@@ -43,22 +43,24 @@ one_is c = c.estimate_motion-one.ensures.value ∙ one_answered (asked_at (goal.
 -- the four around it
 four_is : (c : After-estimate_motion_4mv-four) → let s = start_at (goal.at.After-estimate_motion_4mv-four c).After-estimate_motion-one in c.estimate_motion_4mv-four.result ≡ four_of (settings_at s) (block_at s)
 four_is c =
-    let seed = (one_vector (settings_at (goal.at.After-estimate_motion_4mv-four c).Start) (block_at (goal.at.After-estimate_motion_4mv-four c).Start)).vector in
-    let inside = (one_vector_lem (settings_at (goal.at.After-estimate_motion_4mv-four c).Start) (block_at (goal.at.After-estimate_motion_4mv-four c).Start)).found.in_range_is in
+    let s = (goal.at.After-estimate_motion_4mv-four c).Start in
+    let seed = (one_vector (settings_at s) (block_at s)).vector in
+    let inside = (one_vector_lem (settings_at s) (block_at s)).found.in_range_is in
     c.estimate_motion_4mv-four.ensures.value
-    ∙ ap (estimate_four (asked_at (goal.at.After-estimate_motion_4mv-four c).Start)) (ap (λ (e : Estimated). e.vector) (one_is (goal.at.After-estimate_motion_4mv-four c).After-estimate_motion-one))
-    ∙ four_answered (asked_at (goal.at.After-estimate_motion_4mv-four c).Start) seed (four_taken (asked_at (goal.at.After-estimate_motion_4mv-four c).Start) seed c.requires inside)
+    ∙ ap (estimate_four (asked_at s)) (ap (λ (e : Estimated). e.vector) (one_is (goal.at.After-estimate_motion_4mv-four c).After-estimate_motion-one))
+    ∙ four_answered (asked_at s) seed (four_taken (asked_at s) seed c.requires inside)
 
 pub returns-then-settings-ne4 : goal.returns-then-settings-ne4
 unfolding searched_of
 returns-then-settings-ne4 c =
+    let s = (goal.at.returns-then-settings-ne4 c).Start in
     let n = c.args.settings.vectors in
     let o = one_is (goal.at.returns-then-settings-ne4 c).After-estimate_motion-one in
-    let four = four_of (settings_at (goal.at.returns-then-settings-ne4 c).Start) (block_at (goal.at.returns-then-settings-ne4 c).Start) in
+    let four = four_of (settings_at s) (block_at s) in
     let none = ne_eqb n 4 c.if-settings-ne4.true in
-    let vectors : replicate 4 c.zero_vector-zero.result ≡ (searched_of n (settings_at (goal.at.returns-then-settings-ne4 c).Start) (block_at (goal.at.returns-then-settings-ne4 c).Start)).vectors =
+    let vectors : replicate 4 c.zero_vector-zero.result ≡ (searched_of n (settings_at s) (block_at s)).vectors =
     ap (replicate 4) c.zero_vector-zero.ensures ∙ sym (else (eqb n 4) four.vectors (replicate 4 zero_vector) none) in
-    let sums : replicate 4 0 ≡ (searched_of n (settings_at (goal.at.returns-then-settings-ne4 c).Start) (block_at (goal.at.returns-then-settings-ne4 c).Start)).sums = sym (else (eqb n 4) four.sums (replicate 4 0) none) in
+    let sums : replicate 4 0 ≡ (searched_of n (settings_at s) (block_at s)).sums = sym (else (eqb n 4) four.sums (replicate 4 0) none) in
     λ i. record { vector = (o i).vector; sum = (o i).sum; vectors = vectors i; sums = sums i }
 
 pub returns : goal.returns

@@ -38,9 +38,11 @@ slice_bounds-copy_row-end c = omega (arith, inside (goal.at.slice_bounds-copy_ro
 
 pub returns : goal.returns
 returns c =
+    let s = (goal.at.returns c).Start in
+    let k = (goal.at.returns c).After-clamp_coordinate in
     let a = c.args in
     let r = c.clamp_coordinate.result in
     c.copy_row.ensures
-    ∙ tabulate_cong (length a.out.now) _ (λ i. copied (plane (goal.at.returns c).Start) a.at.x a.at.y i a.j)
-    (λ i h. in_row (plane (goal.at.returns c).Start) (to_z w32 (of_z w32 a.at.x)) (a.at.y +ℤ pos a.j) r i c.requires.wide (inside (goal.at.returns c).After-clamp_coordinate) (nearest (goal.at.returns c).After-clamp_coordinate)
-    ∙ ap (λ (z : ℤ). sample_at (plane (goal.at.returns c).Start) (z +ℤ pos i) (a.at.y +ℤ pos a.j)) (of_bits_lem a.at.x c.struct_told-2-1.given.0.1))
+    ∙ tabulate_cong (length a.out.now) _ (λ i. copied (plane s) a.at.x a.at.y i a.j)
+    (λ i h. in_row (plane s) (to_z w32 (of_z w32 a.at.x)) (a.at.y +ℤ pos a.j) r i c.requires.wide (inside k) (nearest k)
+    ∙ ap (λ (z : ℤ). sample_at (plane s) (z +ℤ pos i) (a.at.y +ℤ pos a.j)) (of_bits_lem a.at.x c.struct_told-2-1.given.0.1))

@@ -34,16 +34,20 @@ module _ (c : After-struct_told-then-columns_inside-1) where
   column_is = cast_value w32 x fits starts
 
 pub overflow_cast-at : goal.overflow_cast-at
-overflow_cast-at c = cast_read w32 w64 (x (goal.at.overflow_cast-at c).After-struct_told-then-columns_inside-1) tt (fits (goal.at.overflow_cast-at c).After-struct_told-then-columns_inside-1) (starts (goal.at.overflow_cast-at c).After-struct_told-then-columns_inside-1)
+overflow_cast-at c =
+    let k = (goal.at.overflow_cast-at c).After-struct_told-then-columns_inside-1 in
+    cast_read w32 w64 (x k) tt (fits k) (starts k)
 
 pub straight_rows-requires : goal.straight_rows-requires
 straight_rows-requires c =
+    let k = (goal.at.straight_rows-requires c).After-struct_told-then-columns_inside-1 in
     let a = c.args in
-    (c.requires.0, omega (arith, column_is (goal.at.straight_rows-requires c).After-struct_told-then-columns_inside-1, inside_ends (x (goal.at.straight_rows-requires c).After-struct_told-then-columns_inside-1) a.w a.width (lies (goal.at.straight_rows-requires c).After-struct_told-then-columns_inside-1)), c.requires.1)
+    (c.requires.0, omega (arith, column_is k, inside_ends (x k) a.w a.width (lies k)), c.requires.1)
 
 pub returns-then-columns_inside : goal.returns-then-columns_inside
 returns-then-columns_inside c =
+    let k = (goal.at.returns-then-columns_inside c).After-struct_told-then-columns_inside-1 in
     let a = c.args in
     let p = plane_of a.samples.now (geometry_of a.width a.height a.stride) in
     c.straight_rows.ensures
-    ∙ ap (λ (z : ℤ). raster a.w a.h (copied p z a.at.y)) (ap pos (column_is (goal.at.returns-then-columns_inside c).After-struct_told-then-columns_inside-1) ∙ above-pos (x (goal.at.returns-then-columns_inside c).After-struct_told-then-columns_inside-1) (starts (goal.at.returns-then-columns_inside c).After-struct_told-then-columns_inside-1))
+    ∙ ap (λ (z : ℤ). raster a.w a.h (copied p z a.at.y)) (ap pos (column_is k) ∙ above-pos (x k) (starts k))

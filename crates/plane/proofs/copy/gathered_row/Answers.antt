@@ -46,14 +46,16 @@ gather-requires c =
 
 pub returns : goal.returns
 returns c =
+    let s = (goal.at.returns c).Start in
+    let l = (goal.at.returns c).After-clamp_coordinate in
     let a = c.args in
     let r = c.clamp_coordinate.result in
-    let k = r * (plane (goal.at.returns c).Start).stride in
-    let w = (plane (goal.at.returns c).Start).width in
+    let k = r * (plane s).stride in
+    let w = (plane s).width in
     let row = take (k + w - k) (drop k a.samples.now) in
     let x = a.at.x in
     c.gather.ensures
-    ∙ tabulate_cong (length a.out.now) _ (λ i. copied (plane (goal.at.returns c).Start) x a.at.y i a.j)
+    ∙ tabulate_cong (length a.out.now) _ (λ i. copied (plane s) x a.at.y i a.j)
     (λ i h. ap (λ (m : ℕ). get_or row m 0) (at_column a.columns.now w x i c.requires.2 (omega (arith, c.requires.1)))
-    ∙ ap (λ (m : ℕ). get_or row (clamp_to m (x +ℤ pos i)) 0) (sym (row_length (goal.at.returns c).After-clamp_coordinate))
-    ∙ in_row (plane (goal.at.returns c).Start) x (a.at.y +ℤ pos a.j) r i c.requires.0.wide (inside (goal.at.returns c).After-clamp_coordinate) (nearest (goal.at.returns c).After-clamp_coordinate))
+    ∙ ap (λ (m : ℕ). get_or row (clamp_to m (x +ℤ pos i)) 0) (sym (row_length l))
+    ∙ in_row (plane s) x (a.at.y +ℤ pos a.j) r i c.requires.0.wide (inside l) (nearest l))

@@ -41,11 +41,13 @@ slice_bounds-copy_straight-end c = omega (arith, inside (goal.at.slice_bounds-co
 
 pub returns : goal.returns
 returns c =
+    let s = (goal.at.returns c).Start in
+    let l = (goal.at.returns c).After-clamp_coordinate in
     let a = c.args in
     let n = length a.out.now in
-    let k = c.clamp_coordinate.result * (plane (goal.at.returns c).Start).stride + a.column in
+    let k = c.clamp_coordinate.result * (plane s).stride + a.column in
     let part = take (k + n - k) (drop k a.samples.now) in
     c.copy_straight.ensures
-    ∙ sym (tabulate_same n part 0 (part_length a.samples.now k n (inside (goal.at.returns c).After-clamp_coordinate)))
-    ∙ tabulate_cong n _ (λ i. copied (plane (goal.at.returns c).Start) (pos a.column) a.at.y i a.j)
-    (λ i h. inside_row (plane (goal.at.returns c).Start) a.column (a.at.y +ℤ pos a.j) c.clamp_coordinate.result n i (nearest (goal.at.returns c).After-clamp_coordinate) c.requires.1 h)
+    ∙ sym (tabulate_same n part 0 (part_length a.samples.now k n (inside l)))
+    ∙ tabulate_cong n _ (λ i. copied (plane s) (pos a.column) a.at.y i a.j)
+    (λ i h. inside_row (plane s) a.column (a.at.y +ℤ pos a.j) c.clamp_coordinate.result n i (nearest l) c.requires.1 h)

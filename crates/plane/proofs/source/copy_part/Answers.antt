@@ -48,6 +48,7 @@ copy_rows-requires c = let p = c.requires in (p.hold, p.area_fits)
 
 pub returns : goal.returns
 returns c =
+    let s = (goal.at.returns c).Start in
     let a = c.args in
     c.copy_rows.ensures
-    ∙ ap₂ (λ (x y : ℤ). raster a.side a.side (copied (packed a.samples.now a.size) x y)) (to_z-of_z w32 _ (fit_x (goal.at.returns c).Start)) (to_z-of_z w32 _ (fit_y (goal.at.returns c).Start))
+    ∙ ap₂ (λ (x y : ℤ). raster a.side a.side (copied (packed a.samples.now a.size) x y)) (to_z-of_z w32 _ (fit_x s)) (to_z-of_z w32 _ (fit_y s))

@@ -24,7 +24,8 @@ read_first-n-requires c = omega (arith, few (goal.at.read_first-n-requires c).Af
 
 pub add_steps-added-requires : goal.add_steps-added-requires
 add_steps-added-requires c =
-    (omega (arith, c.read_first-n.ensures.1, read_most (goal.at.add_steps-added-requires c).After-read_first-n), omega (arith, read_most (goal.at.add_steps-added-requires c).After-read_first-n))
+    let k = (goal.at.add_steps-added-requires c).After-read_first-n in
+    (omega (arith, c.read_first-n.ensures.1, read_most k), omega (arith, read_most k))
 
 pub add_cut-at-requires : goal.add_cut-at-requires
 add_cut-at-requires c =

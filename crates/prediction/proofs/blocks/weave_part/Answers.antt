@@ -17,10 +17,11 @@ inside s = omega arith
 
 pub returns : goal.returns
 returns c =
+    let s = (goal.at.returns c).Start in
     let b = c.args.blocks.now in
     let at = part_at c.args.n in
     c.copy_samples.ensures.out_after
     ∙ ap (λ (r : Reply). done r (take (at + 8 - at) (drop at b)) c.args.out.now)
     (c.copy_samples.ensures.value
-    ∙ same_done (length (take (at + 8 - at) (drop at b))) (length c.args.out.now) (part_length b at 8 (inside (goal.at.returns c).Start) ∙ omega arith))
-    ∙ part_tabulate b at 8 (λ i. get_or b (at + i) 0) 0 (inside (goal.at.returns c).Start) (λ i h. refl)
+    ∙ same_done (length (take (at + 8 - at) (drop at b))) (length c.args.out.now) (part_length b at 8 (inside s) ∙ omega arith))
+    ∙ part_tabulate b at 8 (λ i. get_or b (at + i) 0) 0 (inside s) (λ i h. refl)

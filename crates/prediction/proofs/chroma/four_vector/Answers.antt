@@ -62,19 +62,22 @@ module _ (s : Start) where
 
 pub of_four-requires : goal.of_four-requires
 of_four-requires c =
-    (back_size c.args.a.x (xa (goal.at.of_four-requires c).Start), back_size c.args.b.x (xb (goal.at.of_four-requires c).Start), back_size c.args.c.x (xc (goal.at.of_four-requires c).Start), back_size c.args.d.x (xd (goal.at.of_four-requires c).Start))
+    let s = (goal.at.of_four-requires c).Start in
+    (back_size c.args.a.x (xa s), back_size c.args.b.x (xb s), back_size c.args.c.x (xc s), back_size c.args.d.x (xd s))
 
 pub of_four-requires-2 : goal.of_four-requires-2
 of_four-requires-2 c =
-    (back_size c.args.a.y (ya (goal.at.of_four-requires-2 c).Start), back_size c.args.b.y (yb (goal.at.of_four-requires-2 c).Start), back_size c.args.c.y (yc (goal.at.of_four-requires-2 c).Start), back_size c.args.d.y (yd (goal.at.of_four-requires-2 c).Start))
+    let s = (goal.at.of_four-requires-2 c).Start in
+    (back_size c.args.a.y (ya s), back_size c.args.b.y (yb s), back_size c.args.c.y (yc s), back_size c.args.d.y (yd s))
 
 pub returns : goal.returns
 unfolding chroma_vector
 returns c =
+    let s = (goal.at.returns c).Start in
     let a = c.args in
     let m = a.mode in
     λ i.
     record {
-      x = part_is m a.a.x a.b.x a.c.x a.d.x (xa (goal.at.returns c).Start) (xb (goal.at.returns c).Start) (xc (goal.at.returns c).Start) (xd (goal.at.returns c).Start) c.of_four.result c.of_four.ensures i;
-      y = part_is m a.a.y a.b.y a.c.y a.d.y (ya (goal.at.returns c).Start) (yb (goal.at.returns c).Start) (yc (goal.at.returns c).Start) (yd (goal.at.returns c).Start) c.of_four-2.result c.of_four-2.ensures i;
+      x = part_is m a.a.x a.b.x a.c.x a.d.x (xa s) (xb s) (xc s) (xd s) c.of_four.result c.of_four.ensures i;
+      y = part_is m a.a.y a.b.y a.c.y a.d.y (ya s) (yb s) (yc s) (yd s) c.of_four-2.result c.of_four-2.ensures i;
     }

@@ -112,21 +112,25 @@ overflow_add-sum c =
 
 pub overflow_add-sum-2 : goal.overflow_add-sum-2
 overflow_add-sum-2 c =
+    let k = (goal.at.overflow_add-sum-2 c).After-in_halves-3 in
     let p = c.in_halves.result in
     let q = c.in_halves-2.result in
     let r = c.in_halves-3.result in
-    sum_fits (added p q) r (omega (arith, two_size p q r r (size_a (goal.at.overflow_add-sum-2 c).After-in_halves) (size_b (goal.at.overflow_add-sum-2 c).After-in_halves-2) (size_c (goal.at.overflow_add-sum-2 c).After-in_halves-3) (size_c (goal.at.overflow_add-sum-2 c).After-in_halves-3)))
-    (omega (arith, size_c (goal.at.overflow_add-sum-2 c).After-in_halves-3))
+    sum_fits (added p q) r (omega (arith, two_size p q r r (size_a (goal.at.overflow_add-sum-2 c).After-in_halves) (size_b (goal.at.overflow_add-sum-2 c).After-in_halves-2) (size_c k) (size_c k)))
+    (omega (arith, size_c k))
 
 pub overflow_add-sum-3 : goal.overflow_add-sum-3
 overflow_add-sum-3 c = all_fit (goal.at.overflow_add-sum-3 c).After-in_halves-4
 
 pub of_sum-requires : goal.of_sum-requires
-of_sum-requires c = subst (λ (z : ℤ). nat_abs z ≤ 8192) (sym (all_read (goal.at.of_sum-requires c).After-in_halves-4)) (all_size (goal.at.of_sum-requires c).After-in_halves-4)
+of_sum-requires c =
+    let k = (goal.at.of_sum-requires c).After-in_halves-4 in
+    subst (λ (z : ℤ). nat_abs z ≤ 8192) (sym (all_read k)) (all_size k)
 
 pub returns : goal.returns
 returns c =
-    let z = p1 (goal.at.returns c).After-in_halves-4 +ℤ p2 (goal.at.returns c).After-in_halves-4 +ℤ p3 (goal.at.returns c).After-in_halves-4 +ℤ p4 (goal.at.returns c).After-in_halves-4 in
-    ap (λ (v : ℤ). to_z w32 (of_z w32 v)) (c.of_sum.ensures ∙ ap chroma_of_sum (all_read (goal.at.returns c).After-in_halves-4))
-    ∙ size_read (chroma_of_sum z) (omega (arith, of_sum_size z (all_size (goal.at.returns c).After-in_halves-4)))
-    ∙ ap chroma_of_sum (all_are (goal.at.returns c).After-in_halves-4)
+    let k = (goal.at.returns c).After-in_halves-4 in
+    let z = p1 k +ℤ p2 k +ℤ p3 k +ℤ p4 k in
+    ap (λ (v : ℤ). to_z w32 (of_z w32 v)) (c.of_sum.ensures ∙ ap chroma_of_sum (all_read k))
+    ∙ size_read (chroma_of_sum z) (omega (arith, of_sum_size z (all_size k)))
+    ∙ ap chroma_of_sum (all_are k)

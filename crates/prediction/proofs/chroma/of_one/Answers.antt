@@ -52,7 +52,8 @@ a_fraction z e = ap (λ (n : ℕ). shr_z z 4 *ℤ pos 2 +ℤ pos n) (sym (else (
 
 pub overflow_mul-whole : goal.overflow_mul-whole
 overflow_mul-whole c =
-    subst (SFits w32) (sym (whole_is (goal.at.overflow_mul-whole c).After-split_quarter_pel-split)) (size_fits (whole (goal.at.overflow_mul-whole c).After-split_quarter_pel-split *ℤ pos 2) (omega (arith, twice_size (goal.at.overflow_mul-whole c).After-split_quarter_pel-split)))
+    let k = (goal.at.overflow_mul-whole c).After-split_quarter_pel-split in
+    subst (SFits w32) (sym (whole_is k)) (size_fits (whole k *ℤ pos 2) (omega (arith, twice_size k)))
 
 pub overflow_add-result : goal.overflow_add-result
 overflow_add-result c =
@@ -62,7 +63,8 @@ overflow_add-result c =
 
 pub returns-then-split-eq0 : goal.returns-then-split-eq0
 returns-then-split-eq0 c =
-    twice_read (goal.at.returns-then-split-eq0 c).After-split_quarter_pel-split ∙ no_fraction c.args.mv (sym (fraction_is (goal.at.returns-then-split-eq0 c).After-split_quarter_pel-split) ∙ c.if-split-eq0.true)
+    let k = (goal.at.returns-then-split-eq0 c).After-split_quarter_pel-split in
+    twice_read k ∙ no_fraction c.args.mv (sym (fraction_is k) ∙ c.if-split-eq0.true)
 
 pub returns-else-split-eq0 : goal.returns-else-split-eq0
 returns-else-split-eq0 c =

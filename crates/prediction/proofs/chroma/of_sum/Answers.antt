@@ -37,16 +37,20 @@ pub overflow_cast-halves : goal.overflow_cast-halves
 overflow_cast-halves c = record { sfits = omega (arith, size_most (goal.at.overflow_cast-halves c).After-halves_of) }
 
 pub overflow_sub-result : goal.overflow_sub-result
-overflow_sub-result c = negative_fits (size_of (goal.at.overflow_sub-result c).After-halves_of) (omega (arith, size_most (goal.at.overflow_sub-result c).After-halves_of))
+overflow_sub-result c =
+    let k = (goal.at.overflow_sub-result c).After-halves_of in
+    negative_fits (size_of k) (omega (arith, size_most k))
 
 pub returns-then-sum-lt0 : goal.returns-then-sum-lt0
 returns-then-sum-lt0 c =
-    negative_read (size_of (goal.at.returns-then-sum-lt0 c).After-halves_of) (omega (arith, size_most (goal.at.returns-then-sum-lt0 c).After-halves_of))
-    ∙ signed_below c.args.sum (size_of (goal.at.returns-then-sum-lt0 c).After-halves_of) (sym (ap (λ (v : ℤ). lt_z v (pos 0)) (total (goal.at.returns-then-sum-lt0 c).Start)) ∙ c.if-sum-lt0.true)
-    ∙ ap (signed c.args.sum) (size_is (goal.at.returns-then-sum-lt0 c).After-halves_of)
+    let k = (goal.at.returns-then-sum-lt0 c).After-halves_of in
+    negative_read (size_of k) (omega (arith, size_most k))
+    ∙ signed_below c.args.sum (size_of k) (sym (ap (λ (v : ℤ). lt_z v (pos 0)) (total (goal.at.returns-then-sum-lt0 c).Start)) ∙ c.if-sum-lt0.true)
+    ∙ ap (signed c.args.sum) (size_is k)
 
 pub returns-else-sum-lt0 : goal.returns-else-sum-lt0
 returns-else-sum-lt0 c =
-    to_z_pos w32 (size_of (goal.at.returns-else-sum-lt0 c).After-halves_of) (omega (arith, size_most (goal.at.returns-else-sum-lt0 c).After-halves_of))
-    ∙ signed_above c.args.sum (size_of (goal.at.returns-else-sum-lt0 c).After-halves_of) (sym (ap (λ (v : ℤ). lt_z v (pos 0)) (total (goal.at.returns-else-sum-lt0 c).Start)) ∙ c.if-sum-lt0.false)
-    ∙ ap (signed c.args.sum) (size_is (goal.at.returns-else-sum-lt0 c).After-halves_of)
+    let k = (goal.at.returns-else-sum-lt0 c).After-halves_of in
+    to_z_pos w32 (size_of k) (omega (arith, size_most k))
+    ∙ signed_above c.args.sum (size_of k) (sym (ap (λ (v : ℤ). lt_z v (pos 0)) (total (goal.at.returns-else-sum-lt0 c).Start)) ∙ c.if-sum-lt0.false)
+    ∙ ap (signed c.args.sum) (size_is k)

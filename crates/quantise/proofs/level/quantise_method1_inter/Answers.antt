@@ -47,8 +47,9 @@ overflow_mul-f c = subst (SFits w32) (sym (sixteen (goal.at.overflow_mul-f c).St
 
 pub toward_zero-rest-requires : goal.toward_zero-rest-requires
 toward_zero-rest-requires c =
+    let s = (goal.at.toward_zero-rest-requires c).Start in
     let few : nat_abs (c.args.f *ℤ pos 16) ≤ 32768 = omega (arith, sixteen_size c.args.f, c.requires.small) in
-    (subst (λ (z : ℤ). nat_abs z ≤ 32768) (sym (sixteen_is (goal.at.toward_zero-rest-requires c).Start)) few, omega (arith, d_most (goal.at.toward_zero-rest-requires c).Start))
+    (subst (λ (z : ℤ). nat_abs z ≤ 32768) (sym (sixteen_is s)) few, omega (arith, d_most s))
 
 pub overflow_mul-d-2 : goal.overflow_mul-d-2
 overflow_mul-d-2 c = record { fits = omega (arith, d_most (goal.at.overflow_mul-d-2 c).Start) }
@@ -58,9 +59,10 @@ overflow_cast-d-2 c = record { sfits = omega (arith, d_most (goal.at.overflow_ca
 
 pub nonzero_div-rest : goal.nonzero_div-rest
 nonzero_div-rest c =
+    let s = (goal.at.nonzero_div-rest c).Start in
     let d = c.args.w * c.args.quantiser_scale in
     let few : 16 * nat_abs c.args.f - d ≤ 32768 = omega (arith, c.requires.small) in
-    (omega (arith, d_some (goal.at.nonzero_div-rest c).Start), quot_fits c.args.f c.toward_zero-rest.result (16 * nat_abs c.args.f - d) (2 * d) (rest (goal.at.nonzero_div-rest c).After-toward_zero-rest) few (omega (arith, d_most (goal.at.nonzero_div-rest c).Start)))
+    (omega (arith, d_some s), quot_fits c.args.f c.toward_zero-rest.result (16 * nat_abs c.args.f - d) (2 * d) (rest (goal.at.nonzero_div-rest c).After-toward_zero-rest) few (omega (arith, d_most s)))
 
 pub returns : goal.returns
 unfolding level_by_weight

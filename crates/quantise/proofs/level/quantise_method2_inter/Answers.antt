@@ -55,17 +55,21 @@ pub overflow_cast-size : goal.overflow_cast-size
 overflow_cast-size c = record { sfits = omega (arith, size_most (goal.at.overflow_cast-size c).After-less-rest) }
 
 pub overflow_sub-result : goal.overflow_sub-result
-overflow_sub-result c = minus_fits (size_of (goal.at.overflow_sub-result c).After-less-rest) (omega (arith, size_most (goal.at.overflow_sub-result c).After-less-rest))
+overflow_sub-result c =
+    let k = (goal.at.overflow_sub-result c).After-less-rest in
+    minus_fits (size_of k) (omega (arith, size_most k))
 
 pub returns-then-f-lt0 : goal.returns-then-f-lt0
 returns-then-f-lt0 c =
+    let k = (goal.at.returns-then-f-lt0 c).After-less-rest in
     to_z-of_z w32 _ (overflow_sub-result (goal.at.returns-then-f-lt0 c).Then-f-lt0)
-    ∙ minus_read (size_of (goal.at.returns-then-f-lt0 c).After-less-rest) (omega (arith, size_most (goal.at.returns-then-f-lt0 c).After-less-rest))
+    ∙ minus_read (size_of k) (omega (arith, size_most k))
     ∙ minus_signed c.args.f _ (sym (ap (λ (v : ℤ). lt_z v (pos 0)) (f_is (goal.at.returns-then-f-lt0 c).Start)) ∙ c.if-f-lt0.true)
-    ∙ level_is c.args.quantiser_scale c.args.f _ (size_is (goal.at.returns-then-f-lt0 c).After-less-rest) (size_most (goal.at.returns-then-f-lt0 c).After-less-rest)
+    ∙ level_is c.args.quantiser_scale c.args.f _ (size_is k) (size_most k)
 
 pub returns-else-f-lt0 : goal.returns-else-f-lt0
 returns-else-f-lt0 c =
-    to_z_pos w32 (size_of (goal.at.returns-else-f-lt0 c).After-less-rest) (omega (arith, size_most (goal.at.returns-else-f-lt0 c).After-less-rest))
+    let k = (goal.at.returns-else-f-lt0 c).After-less-rest in
+    to_z_pos w32 (size_of k) (omega (arith, size_most k))
     ∙ signed_above c.args.f _ (sym (ap (λ (v : ℤ). lt_z v (pos 0)) (f_is (goal.at.returns-else-f-lt0 c).Start)) ∙ c.if-f-lt0.false)
-    ∙ level_is c.args.quantiser_scale c.args.f _ (size_is (goal.at.returns-else-f-lt0 c).After-less-rest) (size_most (goal.at.returns-else-f-lt0 c).After-less-rest)
+    ∙ level_is c.args.quantiser_scale c.args.f _ (size_is k) (size_most k)

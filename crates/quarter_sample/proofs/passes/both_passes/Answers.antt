@@ -45,6 +45,7 @@ slice_bounds-filter_rows-end c = sym (length-take-le _ _ (room (goal.at.slice_bo
 
 pub filter_rows-requires : goal.filter_rows-requires
 filter_rows-requires c =
+    let s = (goal.at.filter_rows-requires c).Start in
     record {
       width_low = c.requires.0.width_low;
       width_high = c.requires.0.width_high;
@@ -52,8 +53,8 @@ filter_rows-requires c =
       some_fraction = c.requires.0.some_fraction;
       fraction_small = c.requires.0.fraction_small;
       rc_small = c.requires.0.rc_small;
-      reaches = subst (λ (n : ℕ). (c.args.h + 1) * (c.args.w + 7) ≤ n) (sym (length-take-le _ _ (room (goal.at.filter_rows-requires c).Start))) (reach (goal.at.filter_rows-requires c).Start);
-      wide_high = subst (λ (n : ℕ). n ≤ 400) (sym (length-take-le _ _ (room (goal.at.filter_rows-requires c).Start))) (room (goal.at.filter_rows-requires c).Start);
+      reaches = subst (λ (n : ℕ). (c.args.h + 1) * (c.args.w + 7) ≤ n) (sym (length-take-le _ _ (room s))) (reach s);
+      wide_high = subst (λ (n : ℕ). n ≤ 400) (sym (length-take-le _ _ (room s))) (room s);
     }
 
 -- the long row as it comes back, and what stands behind it
@@ -65,11 +66,13 @@ rest s = drop (count s) (replicate 400 0)
 
 rows_fit : (c : After-filter_rows) → (c.args.h + 1) * (c.args.w + 7) ≤ length (wide c)
 rows_fit c =
-    subst (λ (n : ℕ). (c.args.h + 1) * (c.args.w + 7) ≤ n) (sym (c.filter_rows.auto.wide ∙ length-take-le _ _ (room (goal.at.After-filter_rows c).Start))) (reach (goal.at.After-filter_rows c).Start)
+    let s = (goal.at.After-filter_rows c).Start in
+    subst (λ (n : ℕ). (c.args.h + 1) * (c.args.w + 7) ≤ n) (sym (c.filter_rows.auto.wide ∙ length-take-le _ _ (room s))) (reach s)
 
 pub returns : goal.returns
 returns c =
+    let k = (goal.at.returns c).After-filter_rows in
     let a = c.args in
     c.wide_column_pass.ensures
     ∙ both a.rc a.max a.w a.h a.block.now a.fx a.fy _ c.requires.0.height_low
-    (still_filtered a.w (a.h + 1) a.rc a.max a.fx a.block.now (wide (goal.at.returns c).After-filter_rows) (rest (goal.at.returns c).Start) (rows_fit (goal.at.returns c).After-filter_rows) c.filter_rows.ensures)
+    (still_filtered a.w (a.h + 1) a.rc a.max a.fx a.block.now (wide k) (rest (goal.at.returns c).Start) (rows_fit k) c.filter_rows.ensures)

@@ -43,6 +43,7 @@ slice_bounds-filter_rows-end c = sym (length-take-le _ _ (room (goal.at.slice_bo
 
 pub filter_rows-requires : goal.filter_rows-requires
 filter_rows-requires c =
+    let s = (goal.at.filter_rows-requires c).Start in
     record {
       width_low = c.requires.width_low;
       width_high = c.requires.width_high;
@@ -50,8 +51,8 @@ filter_rows-requires c =
       some_fraction = c.requires.some_fraction;
       fraction_small = c.requires.fraction_small;
       rc_small = c.requires.rc_small;
-      reaches = subst (λ (n : ℕ). c.args.h * (c.args.w + 7) ≤ n) (sym (length-take-le _ _ (room (goal.at.filter_rows-requires c).Start))) (reach (goal.at.filter_rows-requires c).Start);
-      wide_high = subst (λ (n : ℕ). n ≤ 400) (sym (length-take-le _ _ (room (goal.at.filter_rows-requires c).Start))) (room (goal.at.filter_rows-requires c).Start);
+      reaches = subst (λ (n : ℕ). c.args.h * (c.args.w + 7) ≤ n) (sym (length-take-le _ _ (room s))) (reach s);
+      wide_high = subst (λ (n : ℕ). n ≤ 400) (sym (length-take-le _ _ (room s))) (room s);
     }
 
 -- the long row as it comes back, and what stands behind it
@@ -63,7 +64,8 @@ rest s = drop (count s) (replicate 400 0)
 
 rows_fit : (c : After-filter_rows) → c.args.h * (c.args.w + 7) ≤ length (wide c)
 rows_fit c =
-    subst (λ (n : ℕ). c.args.h * (c.args.w + 7) ≤ n) (sym (c.filter_rows.auto.wide ∙ length-take-le _ _ (room (goal.at.After-filter_rows c).Start))) (reach (goal.at.After-filter_rows c).Start)
+    let s = (goal.at.After-filter_rows c).Start in
+    subst (λ (n : ℕ). c.args.h * (c.args.w + 7) ≤ n) (sym (c.filter_rows.auto.wide ∙ length-take-le _ _ (room s))) (reach s)
 
 whole : (c : After-filter_rows) → length (wide c ++ rest (goal.at.After-filter_rows c).Start) ≡ 400
 whole c = put_back (wide c) (replicate 400 0) (count (goal.at.After-filter_rows c).Start) c.filter_rows.auto.wide
@@ -103,18 +105,21 @@ take_rows-requires-in_default c =
 
 pub returns-in-16 : goal.returns-in-16
 returns-in-16 c =
+    let k = (goal.at.returns-in-16 c).After-filter_rows in
     let a = c.args in
-    taken a.w a.h a.rc a.max a.fraction a.block.now (wide (goal.at.returns-in-16 c).After-filter_rows) (rest (goal.at.returns-in-16 c).Start) (rows_fit (goal.at.returns-in-16 c).After-filter_rows) c.filter_rows.ensures
+    taken a.w a.h a.rc a.max a.fraction a.block.now (wide k) (rest (goal.at.returns-in-16 c).Start) (rows_fit k) c.filter_rows.ensures
     23 16 _ _ (omega (arith, c.in-16.is)) (sym c.in-16.is) refl c.take_rows.ensures
 
 pub returns-in-8 : goal.returns-in-8
 returns-in-8 c =
+    let k = (goal.at.returns-in-8 c).After-filter_rows in
     let a = c.args in
-    taken a.w a.h a.rc a.max a.fraction a.block.now (wide (goal.at.returns-in-8 c).After-filter_rows) (rest (goal.at.returns-in-8 c).Start) (rows_fit (goal.at.returns-in-8 c).After-filter_rows) c.filter_rows.ensures
+    taken a.w a.h a.rc a.max a.fraction a.block.now (wide k) (rest (goal.at.returns-in-8 c).Start) (rows_fit k) c.filter_rows.ensures
     15 8 _ _ (omega (arith, c.in-8.is)) (sym c.in-8.is) refl c.take_rows-in-8.ensures
 
 pub returns-in_default : goal.returns-in_default
 returns-in_default c =
+    let k = (goal.at.returns-in_default c).After-filter_rows in
     let a = c.args in
-    taken a.w a.h a.rc a.max a.fraction a.block.now (wide (goal.at.returns-in_default c).After-filter_rows) (rest (goal.at.returns-in_default c).Start) (rows_fit (goal.at.returns-in_default c).After-filter_rows) c.filter_rows.ensures
+    taken a.w a.h a.rc a.max a.fraction a.block.now (wide k) (rest (goal.at.returns-in_default c).Start) (rows_fit k) c.filter_rows.ensures
     (a.w + 7) a.w _ _ refl refl refl c.take_rows-in_default.ensures

@@ -59,4 +59,5 @@ overflow_add-result c = subst (SFits w32) (sym (sum_is (goal.at.overflow_add-res
 
 pub returns : goal.returns
 returns c =
-    ap (λ (z : ℤ). to_z w32 (of_z w32 z)) (sum_is (goal.at.returns c).After-split_half_pel-split) ∙ to_z-of_z w32 (sum (goal.at.returns c).Start) (sum_fits (goal.at.returns c).Start)
+    let s = (goal.at.returns c).Start in
+    ap (λ (z : ℤ). to_z w32 (of_z w32 z)) (sum_is (goal.at.returns c).After-split_half_pel-split) ∙ to_z-of_z w32 (sum s) (sum_fits s)

@@ -101,13 +101,14 @@ overflow_add-side c =
 
 pub grid_ring-requires : goal.grid_ring-requires
 grid_ring-requires c =
+    let k = (goal.at.grid_ring-requires c).After-interpolate_ring_into in
     let g = c.requires.0 in (
       record {
         is_side_is = g.ready.is_side_is;
         source_fits = g.ready.source_fits;
-        right_fits = long (goal.at.grid_ring-requires c).After-interpolate_ring_into true false _ (right_is (goal.at.grid_ring-requires c).After-interpolate_ring_into);
-        under_fits = long (goal.at.grid_ring-requires c).After-interpolate_ring_into false true _ (under_is (goal.at.grid_ring-requires c).After-interpolate_ring_into);
-        diagonal_fits = long (goal.at.grid_ring-requires c).After-interpolate_ring_into true true _ (diagonal_is (goal.at.grid_ring-requires c).After-interpolate_ring_into);
+        right_fits = long k true false _ (right_is k);
+        under_fits = long k false true _ (under_is k);
+        diagonal_fits = long k true true _ (diagonal_is k);
       },
       in_within c.args.fcode c.args.v g.fcode_usable g.vector_in_is,
       g.fcode_usable,
@@ -115,14 +116,15 @@ grid_ring-requires c =
 
 pub returns : goal.returns
 returns c =
+    let l = (goal.at.returns c).After-interpolate_ring_into in
     let g = c.requires.0 in
     let a = c.args in
     let sum = half_sum a.rounding (block_of a.source.now a.reference.now a.target) in
     let start =
-    start_sum a.fcode a.v g.is_free g.vector_in_is a.target a.rounding a.source.now a.reference.now (patch (goal.at.returns c).After-interpolate_ring_into)
-    g.ready.is_side_is g.ready.source_fits (patch_long (goal.at.returns c).After-interpolate_ring_into) (patch_is (goal.at.returns c).After-interpolate_ring_into) in
+    start_sum a.fcode a.v g.is_free g.vector_in_is a.target a.rounding a.source.now a.reference.now (patch l)
+    g.ready.is_side_is g.ready.source_fits (patch_long l) (patch_is l) in
     let around =
     ring_sums a.fcode a.v g.is_free g.vector_in_is a.target a.rounding a.source.now a.reference.now
-    (right (goal.at.returns c).After-interpolate_ring_into) (under (goal.at.returns c).After-interpolate_ring_into) (diagonal (goal.at.returns c).After-interpolate_ring_into) (right_is (goal.at.returns c).After-interpolate_ring_into) (under_is (goal.at.returns c).After-interpolate_ring_into) (diagonal_is (goal.at.returns c).After-interpolate_ring_into) in
+    (right l) (under l) (diagonal l) (right_is l) (under_is l) (diagonal_is l) in
     c.grid_ring.ensures.kept sum around
     ∙ ap (λ (k : ℕ). foldl (consider sum) (scored a.v k) (ring a.fcode 1 a.v)) (c.window_sum-cost.ensures ∙ start)

@@ -34,8 +34,9 @@ module _ (s : Start) where
 
 half_is : (c : After-half_best-half) → c.half_best-half.result ≡ half_kept (sum_of (goal.at.After-half_best-half c).Start) c.args.settings c.args.winner.vector
 half_is c =
+    let s = (goal.at.After-half_best-half c).Start in
     c.half_best-half.ensures
-    ∙ ap (λ (w : MotionVector). foldl (consider (sum_of (goal.at.After-half_best-half c).Start)) (at_cost (sum_of (goal.at.After-half_best-half c).Start) w) (around (goal.at.After-half_best-half c).Start w)) c.start-vector.ensures
+    ∙ ap (λ (w : MotionVector). foldl (consider (sum_of s)) (at_cost (sum_of s) w) (around s w)) c.start-vector.ensures
 
 pub half_best-half-requires : goal.half_best-half-requires
 half_best-half-requires c =
@@ -55,7 +56,8 @@ returns-in-HalfPel c =
 
 pub returns-in-QuarterPel : goal.returns-in-QuarterPel
 returns-in-QuarterPel c =
+    let s = (goal.at.returns-in-QuarterPel c).Start in
     let t = c.args.settings in
     c.ring_search.ensures
-    ∙ ap (λ (k : Scored). foldl (consider (sum_of (goal.at.returns-in-QuarterPel c).Start)) k (ring t.fcode 1 k.vector)) (half_is (goal.at.returns-in-QuarterPel c).After-half_best-half)
-    ∙ refine_quarter (sum_of (goal.at.returns-in-QuarterPel c).Start) t c.args.winner.vector _ c.in-QuarterPel.is
+    ∙ ap (λ (k : Scored). foldl (consider (sum_of s)) k (ring t.fcode 1 k.vector)) (half_is (goal.at.returns-in-QuarterPel c).After-half_best-half)
+    ∙ refine_quarter (sum_of s) t c.args.winner.vector _ c.in-QuarterPel.is

@@ -24,7 +24,11 @@ product_fits s =
     (omega (arith, below-mul z u, product_le s.requires.1 s.requires.2))
 
 pub overflow_mul-result : goal.overflow_mul-result
-overflow_mul-result c = subst (SFits w32) (sym (product_is (goal.at.overflow_mul-result c).Start)) (product_fits (goal.at.overflow_mul-result c).Start)
+overflow_mul-result c =
+    let s = (goal.at.overflow_mul-result c).Start in
+    subst (SFits w32) (sym (product_is s)) (product_fits s)
 
 pub returns : goal.returns
-returns c = ap (λ (v : ℤ). to_z w32 (of_z w32 v)) (product_is (goal.at.returns c).Start) ∙ to_z-of_z w32 (c.args.z *ℤ pos c.args.units) (product_fits (goal.at.returns c).Start)
+returns c =
+    let s = (goal.at.returns c).Start in
+    ap (λ (v : ℤ). to_z w32 (of_z w32 v)) (product_is s) ∙ to_z-of_z w32 (c.args.z *ℤ pos c.args.units) (product_fits s)
