@@ -84,7 +84,7 @@ average_row-requires c =
     let e = columns_is (goal.at.average_row-requires c).After-samples_for-columns in
     record {
       top_fits = part_length (from s).samples (top_row k * (from s).stride + c.args.column) n (omega (arith, top_end k)) ∙ e;
-      low_fits = part_length (from s).samples (low_row k-2 * (from s).stride + c.args.column) n (omega (arith, low_end k-2)) ∙ e;
+      low_fits = part_length (from s).samples (low_row l * (from s).stride + c.args.column) n (omega (arith, low_end l)) ∙ e;
       some_half_is = c.requires.some_half_is;
       rc_small = c.requires.rc_small;
     }
@@ -98,10 +98,10 @@ returns c =
     let n = c.samples_for-columns.result in
     let e = columns_is (goal.at.returns c).After-samples_for-columns in
     let at = top_row k * (from s).stride + a.column in
-    let under = low_row k-2 * (from s).stride + a.column in
+    let under = low_row l * (from s).stride + a.column in
     let w : a.column + n ≤ (from s).width = omega (arith, c.requires.inside) in
     c.average_row.ensures
     ∙ averaged_row (from s) (pos a.column) a.at.y
     (take (at + n - at) (drop at (from s).samples)) (take (under + n - under) (drop under (from s).samples)) a.halves (length a.out.now) a.j
     (λ i h. inside_row (from s) a.column (a.at.y +ℤ pos a.j) (top_row k) n i (top_is k) w (omega arith))
-    (λ i h. inside_row (from s) a.column (a.at.y +ℤ pos (a.j + 1)) (low_row k-2) n i (low_is k-2) w (omega arith))
+    (λ i h. inside_row (from s) a.column (a.at.y +ℤ pos (a.j + 1)) (low_row l) n i (low_is l) w (omega arith))
