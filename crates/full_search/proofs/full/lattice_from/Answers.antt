@@ -57,5 +57,5 @@ returns c =
     let k = (goal.at.returns c).After-back in
     let l = (goal.at.returns c).After-back-2 in
     let x = negative_read c.back.result (small k) ∙ ap (λ (n : ℕ). neg_ℤ (pos n)) (across_is k) in
-    let y = negative_read c.bacl.result (small_2 l) ∙ ap (λ (n : ℕ). neg_ℤ (pos n)) (along_is l) in
+    let y = negative_read c.back-2.result (small_2 l) ∙ ap (λ (n : ℕ). neg_ℤ (pos n)) (along_is l) in
     λ i. record { x = x i; y = y i }
