@@ -1,2 +1,2 @@
-mod Places
-mod Replies
+pub mod Places
+pub mod Replies

@@ -1,32 +1,20 @@
 // A picture's run as the numbers that C keeps: width, height, macroblocks given, their events, their one-vector sums.
 ghost use Rattle.std.specs.Prelude.{◌≡◌};
 ghost use Rattle.refusal.specs.Number.{code_of};
-ghost use Rattle.refusal.specs.Reply.{done};
+ghost use Rattle.refusal.specs.Reply.{written};
 ghost use Rattle.areas.specs.Run.{run_of, run_numbers, place_numbers, totals_numbers};
 
-use picture::{Closed, Run};
+use picture::{Run, Totals};
 use plane::{MacroblockPlace, SourceSize};
-use refusal::Reply;
-
-fn wide(n: usize) -> u64
-    ensures { result ≡ n }
-{
-    n as u64
-}
-
-fn side(n: u64) -> usize
-    ensures { result ≡ n }
-{
-    n as usize
-}
+use refusal::Refusal;
 
 pub fn run_of(numbers: [u64; 5]) -> Run
     ensures { result ≡ run_of numbers }
 {
     Run {
         size: SourceSize {
-            width: side(numbers[0]),
-            height: side(numbers[1]),
+            width: numbers[0] as usize,
+            height: numbers[1] as usize,
         },
         macroblocks: numbers[2],
         events: numbers[3],
@@ -34,43 +22,42 @@ pub fn run_of(numbers: [u64; 5]) -> Run
     }
 }
 
-// A run into its numbers, where there is a new one.
-pub fn write_run(reply: Reply, given: Run, run: &mut [u64; 5])
-    ensures { run.new ≡ done reply (run_numbers given) run.old }
+pub fn run_numbers(given: Run) -> [u64; 5]
+    ensures { result ≡ run_numbers given }
 {
-    match reply {
-        Reply::Refused(_) => {}
-        Reply::Done => {
-            let size = given.size;
-            *run = [
-                wide(size.width),
-                wide(size.height),
-                given.macroblocks,
-                given.events,
-                given.sums,
-            ];
-        }
-    }
+    [
+        given.size.width as u64,
+        given.size.height as u64,
+        given.macroblocks,
+        given.events,
+        given.sums,
+    ]
+}
+
+// A run into its numbers, where there is one, and the reply's number.
+pub fn write_run(told: Result<Run, Refusal>, run: &mut [u64; 5]) -> u8
+    ensures value { result ≡ code_of told }
+    ensures run { run.new ≡ written told run_numbers run.old }
+{
+    crate::records::write(told.map(run_numbers), run)
+}
+
+pub fn totals_numbers(given: Totals) -> [u64; 3]
+    ensures { result ≡ totals_numbers given }
+{
+    [given.macroblocks, given.events, given.sums]
 }
 
 // The totals, where there are any, and the reply's number.
-pub fn write_totals(told: Closed, totals: &mut [u64; 3]) -> u8
-    ensures value { result ≡ code_of told.reply }
-    ensures totals_after { totals.new ≡ done told.reply (totals_numbers told.totals) totals.old }
+pub fn write_totals(told: Result<Totals, Refusal>, totals: &mut [u64; 3]) -> u8
+    ensures value { result ≡ code_of told }
+    ensures totals { totals.new ≡ written told totals_numbers totals.old }
 {
-    let reply = told.reply;
-    match reply {
-        Reply::Refused(why) => refusal::number(why),
-        Reply::Done => {
-            let given = told.totals;
-            *totals = [given.macroblocks, given.events, given.sums];
-            0
-        }
-    }
+    crate::records::write(told.map(totals_numbers), totals)
 }
 
 pub fn place_numbers(at: MacroblockPlace) -> [u64; 2]
     ensures { result ≡ place_numbers at }
 {
-    [wide(at.column), wide(at.row)]
+    [at.column as u64, at.row as u64]
 }

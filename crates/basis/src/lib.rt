@@ -18,9 +18,9 @@ pub fn clamp(x: i32, low: i32, high: i32) -> i32
     }
 }
 
-// How far x is from 0. -1 - x fits an i32 where -x may not.
+// How far x is from 0.
 pub fn magnitude(x: i32) -> u32
     ensures { result ≡ nat_abs x }
 {
-    if x < 0 { (-1 - x) as u32 + 1 } else { x as u32 }
+    x.unsigned_abs()
 }

@@ -49,6 +49,9 @@ pub word_is_lem : (t : Text) (w : List ℕ) → pushes (pushed t 32) w ≡ pushe
 unfolding spaced pushes
 word_is_lem t w = ap (pushes (pushed t 32)) (sym (append-nil w))
 
+pub spaced_two : (t : Text) (a b : List ℕ) → pushes (pushes t (spaced (a ∷ []))) (spaced (b ∷ [])) ≡ pushes t (spaced (a ∷ b ∷ []))
+spaced_two t a b = spaced_more t (a ∷ []) (b ∷ []) refl refl
+
 -- what a word writes is known
 pub word_known : {A : Type 0} {r : Text} {x y : A} (u : Text) (f : A → List ℕ)
     → r ≡ pushes u (spaced (f x ∷ [])) → x ≡ y → r ≡ pushes u (spaced (f y ∷ []))

@@ -1,5 +1,5 @@
 -- Texts that grow byte by byte, and that one with room for all its bytes holds them. Assumes nothing.
-use Prim.Native.Nat.{ℕ, ◌+◌, ◌-◌, ◌≤◌, ◌<◌}
+use Prim.Native.Nat.{ℕ, ◌+◌, ◌-◌, ◌/◌, ◌%◌, ◌≤◌, ◌<◌}
 use native.Mathlib.Numerals.{add-one}
 use native.Mathlib.Omega.{arith}
 use mathlib.Core.List.{List, [], ◌∷◌, ◌++◌, append-nil, append_assoc}
@@ -10,6 +10,8 @@ use lib.Seq.{take-suc, take_at}
 use borrow.Author.Tests.{lt-ltb}
 use Rattle.basis.proofs.Areas.{pad_length, pad_more}
 use Rattle.basis.proofs.Case.{then}
+use Rattle.clip.proofs.Digits.{decimal_one, decimal_more}
+use Rattle.clip.specs.Decimal.{decimal}
 use Rattle.clip.specs.declared.Text.{Text}
 use Rattle.clip.specs.Text.{text_of, taken}
 use Rattle.clip.specs.ToldPush.{no_text, pushed, pushes}
@@ -18,6 +20,17 @@ pub pushes-append : (t : Text) (a b : List ℕ) → pushes t (a ++ b) ≡ pushes
 unfolding pushes
 pushes-append t [] b = refl
 pushes-append t (x ∷ a) b = pushes-append (pushed t x) a b
+
+-- the digits of a number below 10, and of another from those of its tenth
+pub digit_alone : (t : Text) (n : ℕ) → n < 10 → pushed t (48 + n % 10) ≡ pushes t (decimal n)
+unfolding pushes
+digit_alone t n h =
+    let same : n % 10 ≡ n = omega arith in
+    ap (λ (m : ℕ). pushed t (48 + m)) same ∙ sym (ap (pushes t) (decimal_one n h))
+
+pub digit_more : (t : Text) (n : ℕ) → 10 ≤ n → pushed (pushes t (decimal (n / 10))) (48 + n % 10) ≡ pushes t (decimal n)
+unfolding pushes
+digit_more t n h = sym (pushes-append t (decimal (n / 10)) ((48 + n % 10) ∷ [])) ∙ sym (ap (pushes t) (decimal_more n h))
 
 -- a byte more of s
 pub pushes_more : (t : Text) (s : List ℕ) (i : ℕ) → i < length s → pushed (pushes t (take i s)) (get_or s i 0) ≡ pushes t (take (i + 1) s)

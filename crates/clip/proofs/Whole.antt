@@ -4,19 +4,19 @@ use Prim.Native.Nat.{ℕ, ◌≤◌, ◌<◌}
 use native.Mathlib.Omega.{arith}
 use mathlib.Core.Bool.{◌&&◌, ◌||◌}
 use mathlib.Core.List.{List}
-use mathlib.Core.Path.{◌≡◌, sym, ap, ◌∙◌}
+use mathlib.Core.Path.{◌≡◌, refl, ap, subst}
 use lib.Dec.{eqb, leb}
 use borrow.Author.Tests.{lt-leb}
 use Rattle.basis.proofs.Bounds.{product_le}
 use Rattle.refusal.specs.declared.Refusal.TheVariants.{Fcode, Mode, SourceSide, Quantiser, Choice, Length}
-use Rattle.refusal.specs.declared.Reply.{Reply}
-use Rattle.refusal.specs.declared.Reply.TheVariants.{Done, Refused}
+use Rattle.refusal.specs.Reply.{Reply, answer}
+use Rattle.std.specs.Prelude.{Ok, Err}
 use Rattle.refusal.specs.Reply.{unless, done}
 use Rattle.refusal.specs.Test.{between}
 use Rattle.refusal.proofs.Replies.{unless-done, after}
 use Rattle.refusal.proofs.Tests.{and_left, and_right, between-high}
 use Rattle.clip.specs.declared.Head.{Head}
-use Rattle.clip.specs.Header.{head_of, no_head, head_reply, header_reply, header_of}
+use Rattle.clip.specs.Header.{head_of, head_reply, header_reply, header_of}
 use Rattle.clip.specs.Planes.{no_lengths, planes_of, plane_lengths_of}
 
 -- the sides of a picture that is not refused
@@ -24,10 +24,10 @@ pub record Small (h : Head) : Type 0 where
   pub wide : h.width ≤ 176
   pub high : h.height ≤ 144
 
-pub small : (h : Head) → head_reply h ≡ Done → Small h
+pub small : (h : Head) → head_reply h ≡ Ok tt → Small h
 unfolding head_reply
 small h e =
-    let last = unless (eqb h.vectors 1 || eqb h.vectors 4) Choice Done in
+    let last = unless (eqb h.vectors 1 || eqb h.vectors 4) Choice (Ok tt) in
     let fourth = unless (between 1 31 h.quantiser) Quantiser last in
     let wide = between 1 176 h.width in
     let high = between 1 144 h.height in
@@ -48,22 +48,23 @@ pub announced : (h : Head) (r : Reply) → head_reply h ≡ r → plane_lengths_
 unfolding plane_lengths_of
 announced h r e = ap (λ (x : Reply). done x (planes_of h) no_lengths) e
 
--- a header's answer: a reply r that is known to be q, and the head that q leaves
-pub answered : (s : List ℕ) (n : ℕ) (r q : Reply) (h : Head) → r ≡ header_reply s n → r ≡ q → h ≡ done q (head_of s) no_head
-    → record { reply = r; head = h } ≡ header_of s n
-unfolding header_of
-answered s n r q h e p f =
-    ap (λ (x : Head). record { reply = r; head = x }) (f ∙ ap (λ (x : Reply). done x (head_of s) no_head) (sym p))
-    ∙ ap (λ (x : Reply). record { reply = x; head = done x (head_of s) no_head }) e
-
 -- For the reader: a header cut short is refused by 12, whatever stands in the bytes that were not read
-pub cut_short : (s : List ℕ) (n : ℕ) → n < 8 → header_of s n ≡ record { reply = Refused Length; head = no_head }
+pub cut_short : (s : List ℕ) (n : ℕ) → n < 8 → header_of s n ≡ Err Length
 unfolding header_of
-cut_short s n h =
-    ap (λ (r : Reply). record { reply = r; head = done r (head_of s) no_head }) (rw (lt-leb 8 n h))
+cut_short s n h = rw (lt-leb 8 n h)
+
+answer_done : (r : Reply) (g h : Head) → answer r g ≡ Ok h → r ≡ Ok tt
+answer_done (Ok _) g h e = refl
+answer_done (Err why) g h e = absurd (cc)
+
+answer_value : (r : Reply) (g h : Head) → answer r g ≡ Ok h → g ≡ h
+answer_value (Ok _) g h e = cc
+answer_value (Err why) g h e = absurd (cc)
 
 -- a header that was read and is not refused is a whole one, and is judged so again
-pub judged_again : (s : List ℕ) (n : ℕ) → (header_of s n).reply ≡ Done → head_reply (header_of s n).head ≡ Done
+pub judged_again : (s : List ℕ) (n : ℕ) (h : Head) → header_of s n ≡ Ok h → head_reply h ≡ Ok tt
 unfolding header_of
-judged_again s n e =
-    ap (λ (r : Reply). head_reply (done r (head_of s) no_head)) e ∙ after (leb 8 n) Length (head_reply (head_of s)) e
+judged_again s n h e =
+    let r = header_reply s n in
+    subst (λ (x : Head). head_reply x ≡ Ok tt) (answer_value r (head_of s) h e)
+    (after (leb 8 n) Length (head_reply (head_of s)) (answer_done r (head_of s) h e))

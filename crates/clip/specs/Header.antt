@@ -1,13 +1,13 @@
 -- The header of the program's input: eight bytes. Rules W1, W2.
-use Rattle.std.specs.Prelude.{◌&&◌, List, ℕ, ◌+◌, ◌*◌, leb, get_or}
+use Rattle.refusal.specs.declared.Refusal.{Refusal}
+use Rattle.std.specs.Prelude.{◌&&◌, List, ℕ, ◌+◌, ◌*◌, leb, get_or, Result}
 use Rattle.refusal.specs.declared.Refusal.TheVariants.{Fcode, Mode, SourceSide, Quantiser, Length, Choice}
-use Rattle.refusal.specs.declared.Reply.{Reply}
-use Rattle.refusal.specs.declared.Reply.TheVariants.{Done}
-use Rattle.refusal.specs.Reply.{unless, done}
+use Rattle.refusal.specs.Reply.{Reply, answer}
+use Rattle.std.specs.Prelude.{Ok}
+use Rattle.refusal.specs.Reply.{unless}
 use Rattle.refusal.specs.Bounds.{is_fcode, is_mode, is_quantiser, is_vector_count}
 use Rattle.refusal.specs.Test.{between}
 use Rattle.clip.specs.declared.Head.{Head}
-use Rattle.clip.specs.declared.Header.{Header}
 
 -- width and height, two bytes each, high byte first; fcode, mode, quantiser, vector count, one byte each
 abbrev pub head_of : List ℕ → Head
@@ -21,9 +21,6 @@ head_of s =
       vectors = get_or s 7 0;
     }
 
-abbrev pub no_head : Head
-no_head = record { width = 0; height = 0; fcode = 0; mode = 0; quantiser = 0; vectors = 0 }
-
 -- 1, 2, 6, 10, 14: a whole header, in the order of the list. A side is refused by 6, and never by 4.
 unfoldable pub head_reply : Head → Reply
 head_reply h =
@@ -31,12 +28,12 @@ head_reply h =
     (unless (is_mode h.mode) Mode
     (unless (between 1 176 h.width && between 1 144 h.height) SourceSide
     (unless (is_quantiser h.quantiser) Quantiser
-    (unless (is_vector_count h.vectors) Choice Done))))
+    (unless (is_vector_count h.vectors) Choice (Ok tt)))))
 
 -- 12 for a header cut short: the first n of its bytes s were there
 abbrev pub header_reply : List ℕ → ℕ → Reply
 header_reply s n = unless (leb 8 n) Length (head_reply (head_of s))
 
--- the reply, and what the header says where it is not refused
-unfoldable pub header_of : List ℕ → ℕ → Header
-header_of s n = record { reply = header_reply s n; head = done (header_reply s n) (head_of s) no_head }
+-- what the header says where it is not refused
+unfoldable pub header_of : List ℕ → ℕ → Result Head Refusal
+header_of s n = answer (header_reply s n) (head_of s)

@@ -2,10 +2,7 @@
 use Rattle.std.specs.Prelude.{cond, List, [], ◌∷◌, ℕ, ◌+◌, ltb, replicate, set}
 use Rattle.clip.specs.declared.Text.{Text}
 
--- the text in the first `len` of the places
-abbrev pub text_in : List ℕ → ℕ → Text
-text_in bytes len = record { bytes = bytes; len = len }
-
+-- a text that holds nothing yet
 abbrev pub no_text : Text
 no_text = record { bytes = replicate 198 0; len = 0 }
 

@@ -1,100 +1,82 @@
-// Text that grows byte by byte, word by word, in places that are lent, so that a byte is written and the rest is not copied for it:
-// each function answers how far the text then reaches.
-ghost use Rattle.std.specs.Prelude.{◌≡◌, [], ◌∷◌, ◌+◌, ◌<◌};
+// A line that grows byte by byte, word by word, where it lies: a byte is written and the rest is not copied for it.
+ghost use Rattle.std.specs.Prelude.{◌≡◌, [], ◌∷◌};
 ghost use Rattle.clip.specs.Decimal.{decimal, decimal_z};
-ghost use Rattle.clip.specs.ToldPush.{text_in, pushed, pushes};
+ghost use Rattle.clip.specs.ToldPush.{no_text, pushed, pushes};
 ghost use Rattle.clip.specs.Line.{spaced, vector_words};
 
+use crate::Text;
 use record::MotionVector;
 
-pub fn wide(n: usize) -> u64
-    ensures { result ≡ n }
+pub fn empty() -> Text
+    ensures { result ≡ no_text }
 {
-    n as u64
-}
-
-pub fn wide32(n: u32) -> u64
-    ensures { (result ≡ n) × (result < 4294967296) }
-{
-    n as u64
-}
-
-pub fn wide8(n: u8) -> u64
-    ensures { (result ≡ n) × (result < 256) }
-{
-    n as u64
+    Text {
+        bytes: [0; 198],
+        len: 0,
+    }
 }
 
 // One byte more, where there is room.
-pub fn push(bytes: &mut [u8; 198], at: usize, b: u8) -> usize
-    ensures { text_in bytes.new result ≡ pushed (text_in bytes.old at) b }
+#[tactic(auto, unfolding(crate::specs::ToldPush::pushed))]
+pub fn push(line: &mut Text, b: u8)
+    ensures { line.new ≡ pushed line.old b }
 {
-    if at < 198 {
-        bytes[at] = b;
-        return at + 1;
+    if line.len < 198 {
+        line.bytes[line.len] = b;
+        line.len += 1;
     }
-    at
 }
 
-pub fn put_bytes(bytes: &mut [u8; 198], at: usize, s: &[u8]) -> usize
-    ensures { text_in bytes.new result ≡ pushes (text_in bytes.old at) s.now }
+#[tactic(auto, using(crate::proofs::Texts::pushes_more), unfolding(crate::specs::ToldPush::pushes))]
+pub fn push_all(line: &mut Text, s: &[u8])
+    ensures { line.new ≡ pushes line.old s.now }
 {
-    let mut end = at;
-    let mut i: usize = 0;
-    while i < s.len() {
-        end = push(bytes, end, s[i]);
-        i += 1;
+    for b in s {
+        push(line, *b);
     }
-    end
-}
-
-fn digit(n: u64) -> u8
-    requires { n < 10 }
-    ensures { result ≡ 48 + n }
-{
-    48 + (n as u8)
 }
 
 // The digits of n: those of a tenth of it, and its last.
-pub fn number(bytes: &mut [u8; 198], at: usize, n: u64) -> usize
-    ensures { text_in bytes.new result ≡ pushes (text_in bytes.old at) (decimal n) }
+#[tactic(auto, using(crate::proofs::Texts::digit_alone, crate::proofs::Texts::digit_more))]
+pub fn number(line: &mut Text, n: u64)
+    ensures { line.new ≡ pushes line.old (decimal n) }
 {
-    if n < 10 {
-        return push(bytes, at, digit(n));
+    if n >= 10 {
+        number(line, n / 10);
     }
-    let front = number(bytes, at, n / 10);
-    push(bytes, front, digit(n % 10))
+    push(line, b'0' + (n % 10) as u8);
 }
 
-fn signed(bytes: &mut [u8; 198], at: usize, x: i32) -> usize
-    ensures { text_in bytes.new result ≡ pushes (text_in bytes.old at) (decimal_z x) }
+fn signed(line: &mut Text, x: i32)
+    ensures { line.new ≡ pushes line.old (decimal_z x) }
 {
-    let n = wide32(basis::magnitude(x));
     if x < 0 {
-        let minus = push(bytes, at, b'-');
-        return number(bytes, minus, n);
+        push(line, b'-');
     }
-    number(bytes, at, n)
+    number(line, u64::from(x.unsigned_abs()));
 }
 
-pub fn word(bytes: &mut [u8; 198], at: usize, n: u64) -> usize
-    ensures { text_in bytes.new result ≡ pushes (text_in bytes.old at) (spaced (decimal n ∷ [])) }
+#[tactic(auto, using(crate::proofs::Lines::word_is_lem))]
+pub fn word(line: &mut Text, n: u64)
+    ensures { line.new ≡ pushes line.old (spaced (decimal n ∷ [])) }
 {
-    let space = push(bytes, at, b' ');
-    number(bytes, space, n)
+    push(line, b' ');
+    number(line, n);
 }
 
-fn signed_word(bytes: &mut [u8; 198], at: usize, x: i32) -> usize
-    ensures { text_in bytes.new result ≡ pushes (text_in bytes.old at) (spaced (decimal_z x ∷ [])) }
+#[tactic(auto, using(crate::proofs::Lines::word_is_lem))]
+fn signed_word(line: &mut Text, x: i32)
+    ensures { line.new ≡ pushes line.old (spaced (decimal_z x ∷ [])) }
 {
-    let space = push(bytes, at, b' ');
-    signed(bytes, space, x)
+    push(line, b' ');
+    signed(line, x);
 }
 
 // Horizontal, then vertical.
-pub fn vector_words(bytes: &mut [u8; 198], at: usize, v: MotionVector) -> usize
-    ensures { text_in bytes.new result ≡ pushes (text_in bytes.old at) (spaced (vector_words v)) }
+#[tactic(auto, using(crate::proofs::Lines::spaced_two))]
+pub fn vector_words(line: &mut Text, v: MotionVector)
+    ensures { line.new ≡ pushes line.old (spaced (vector_words v)) }
 {
-    let across = signed_word(bytes, at, v.x);
-    signed_word(bytes, across, v.y)
+    signed_word(line, v.x);
+    signed_word(line, v.y);
 }

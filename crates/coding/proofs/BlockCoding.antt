@@ -5,9 +5,9 @@ use mathlib.Core.List.{List}
 use mathlib.Core.Path.{◌≡◌, ap, ◌∙◌}
 use lib.IntN.{ℤ, pos, negsuc}
 use lib.ListN.{length, get_or}
-use Rattle.refusal.specs.declared.Reply.{Reply}
-use Rattle.refusal.specs.declared.Reply.TheVariants.{Done}
-use Rattle.refusal.specs.Reply.{done}
+use Rattle.std.specs.Prelude.{Result, Ok}
+use Rattle.refusal.specs.declared.Refusal.{Refusal}
+use Rattle.refusal.specs.Reply.{Reply, answer}
 use Rattle.refusal.specs.Test.{in_range}
 use Rattle.fdct.specs.Block.{coefficients}
 use Rattle.fdct.specs.Reply.{dct_reply}
@@ -16,7 +16,6 @@ use Rattle.fdct.proofs.Ready.{dct_ready}
 use Rattle.quantise.specs.Block.{quantise_reply}
 use Rattle.quantise.proofs.Accepted.{quantise_ready}
 use Rattle.quantise.proofs.Ranges.{levels_at_lem}
-use Rattle.scan.specs.declared.Events.{Events}
 use Rattle.scan.specs.Event.{events_of}
 use Rattle.scan.specs.Reply.{scan_reply, events_reply, events_answer}
 use Rattle.scan.proofs.Accepted.{scan_ready, events_ready}
@@ -26,11 +25,11 @@ use Rattle.coding.specs.Residual.{ResidualRange}
 use Rattle.coding.specs.Told.{Quantisable}
 use Rattle.coding.proofs.Levels.{quantised-length, scan_length}
 
-pub transform_done : (block : List ℤ) → length block ≡ 64 → ResidualRange 64 block → dct_reply block 64 ≡ Done
+pub transform_done : (block : List ℤ) → length block ≡ 64 → ResidualRange 64 block → dct_reply block 64 ≡ Ok tt
 transform_done block full small = dct_ready block full small.at
 
 module _ (by : Quantising) (set : Quantisable by) (block : List ℤ) where
-  pub quantise_done : quantise_reply (coefficients block) by.quantiser by.first by.weights 64 ≡ Done
+  pub quantise_done : quantise_reply (coefficients block) by.quantiser by.first by.weights 64 ≡ Ok tt
   quantise_done =
       quantise_ready (coefficients block) by.quantiser by.first by.weights set.weighed
       (coefficients-length block) set.long (coefficients_in block)
@@ -43,16 +42,13 @@ module _ (by : Quantising) (set : Quantisable by) (block : List ℤ) where
   scan_in : (k : ℕ) → k < 64 → in_range (negsuc 2046) (pos 2047) (get_or (in_scan by block) k (pos 0)) ≡ true
   scan_in = scanned_each by.scan (quantised by block) (in_range (negsuc 2046) (pos 2047)) rows_in
 
-  pub scan_done : scan_reply (quantised by block) by.scan 64 ≡ Done
+  pub scan_done : scan_reply (quantised by block) by.scan 64 ≡ Ok tt
   scan_done = scan_ready (quantised by block) (quantised-length by block) rows_in by.scan set.known
 
-  pub events-done : (a b c : ℕ) → a ≡ 64 → b ≡ 64 → c ≡ 64 → events_reply (in_scan by block) a b c ≡ Done
-  events-done = events_ready (in_scan by block) (scan_length by block) scan_in
+  pub events_done : (a b c : ℕ) → a ≡ 64 → b ≡ 64 → c ≡ 64 → events_reply (in_scan by block) a b c ≡ Ok tt
+  events_done = events_ready (in_scan by block) (scan_length by block) scan_in
 
 -- what events answer where they are not refused
-module _ (l : List ℤ) (a b c : ℕ) (r : Events) (e : r ≡ events_answer (events_reply l a b c) l) (d : events_reply l a b c ≡ Done) where
-  pub events_reply_lem : r.reply ≡ Done
-  events_reply_lem = ap (λ (x : Events). x.reply) e ∙ d
-
-  pub events_count : r.count ≡ length (events_of l)
-  events_count = ap (λ (x : Events). x.count) e ∙ ap (λ (x : Reply). done x (length (events_of l)) 0) d
+pub events_are : (l : List ℤ) (a b c : ℕ) (r : Result ℕ Refusal) → r ≡ events_answer (events_reply l a b c) l
+    → events_reply l a b c ≡ Ok tt → r ≡ Ok (length (events_of l))
+events_are l a b c r e d = e ∙ ap (λ (x : Reply). answer x (length (events_of l))) d

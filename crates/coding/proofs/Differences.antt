@@ -15,16 +15,22 @@ use mir.ValLaws.{to_z-of_z, to_z_pos}
 use Rattle.basis.specs.Lists.{tabulate}
 use Rattle.basis.proofs.Lists.{filled, filled_none, filled_set, filled_end, get_or-raster}
 use Rattle.basis.proofs.Parts.{above-sub, below_sub}
-use Rattle.basis.proofs.Signed.{minus_fits}
+use Rattle.basis.proofs.Signed.{minus_fits, of_bits_lem}
 use Rattle.refusal.specs.Test.{in_range}
 use Rattle.refusal.proofs.Tests.{range_is}
 use Rattle.plane.specs.Source.{eight_of}
 use Rattle.coding.specs.Residual.{ResidualRange}
 
+-- a byte that was widened
+widened : (a : ℕ) (y : ℤ) → a < 2 ^ 8 → y ≡ pos a → to_z w32 (of_z w32 y) ≡ to_z w32 a
+widened a y h e = ap (λ (z : ℤ). to_z w32 (of_z w32 z)) e ∙ of_bits_lem (pos a) (omega arith) ∙ sym (to_z_pos w32 a (omega arith))
+
 module _ (a b : ℕ) (h : a < 2 ^ 8) (k : b < 2 ^ 8) where
-  pub difference_read : to_z w32 (of_z w32 (to_z w32 a -ℤ to_z w32 b)) ≡ pos a -ℤ pos b
-  difference_read =
-      to_z-of_z w32 (to_z w32 a -ℤ to_z w32 b) (minus_fits a b (omega arith) (omega arith))
+  pub difference_read : (y z : ℤ) → y ≡ pos a → z ≡ pos b
+      → to_z w32 (of_z w32 (to_z w32 (of_z w32 y) -ℤ to_z w32 (of_z w32 z))) ≡ pos a -ℤ pos b
+  difference_read y z e f =
+      ap₂ (λ (m n : ℤ). to_z w32 (of_z w32 (m -ℤ n))) (widened a y h e) (widened b z k f)
+      ∙ to_z-of_z w32 (to_z w32 a -ℤ to_z w32 b) (minus_fits a b (omega arith) (omega arith))
       ∙ ap₂ ◌-ℤ◌ (to_z_pos w32 a (omega arith)) (to_z_pos w32 b (omega arith))
 
   pub difference_in : in_range (negsuc 254) (pos 255) (pos a -ℤ pos b) ≡ true

@@ -3,7 +3,6 @@ pub mod Accepted
 pub mod Levels
 pub mod Nearness
 pub mod SixBlocks
-pub mod Taken
 -- And laws that several proofs here cite.
 mod Bits
 mod BlockCoding

@@ -1,22 +1,40 @@
 -- Six blocks of a residual: which samples a block is the difference of, and that all six are small where each is. Assumes nothing.
-use Prim.Native.Nat.{ℕ, ◌+◌, ◌*◌, ◌/◌, ◌%◌, ◌<◌}
+use Prim.Native.Nat.{ℕ, ◌+◌, ◌*◌, ◌/◌, ◌%◌, ◌≤◌, ◌<◌}
 use native.Mathlib.Omega.{arith}
 use mathlib.Core.Bool.{true, false, cond}
 use mathlib.Core.List.{List}
 use mathlib.Core.Path.{◌≡◌, sym, ap, ap₂, ◌∙◌}
+use borrow.Author.Tests.{lt-ltb, le-ltb, eq-eqb, ne_eqb}
 use lib.Dec.{eqb, ltb}
 use lib.IntN.{ℤ, pos, negsuc, ◌-ℤ◌}
 use lib.ListN.{length, get_or}
-use Rattle.basis.specs.Lists.{rows}
+use Rattle.basis.specs.Lists.{tabulate, rows}
 use Rattle.basis.proofs.Case.{then, else}
-use Rattle.basis.proofs.Lists.{length-tabulate, get_or-rows, length-rows}
+use Rattle.basis.proofs.Lists.{length-tabulate, tabulate_cong, get_or-rows}
 use Rattle.refusal.specs.Test.{in_range}
 use Rattle.plane.specs.Source.{eight_of}
 use Rattle.plane.specs.Samples.{Samples}
-use Rattle.coding.specs.Residual.{samples_of, block_residual, residual_of, ResidualRange}
+use Rattle.coding.specs.Residual.{samples_of, block_residual, ResidualRange}
+use Rattle.coding.specs.Told.{difference_at}
+use Rattle.coding.proofs.Differences.{eight_at}
 
 pub block_length : (s p : List ℕ) → length (block_residual s p) ≡ 64
 block_length s p = length-tabulate 64 (λ k. pos (get_or s k 0) -ℤ pos (get_or p k 0))
+
+-- differences from one place on are a block's
+part_is : (s p x y : List ℕ) (stride from : ℕ)
+    → ((k : ℕ) → k < 64 → get_or x k 0 ≡ get_or s (from + k / 8 * stride + k % 8) 0)
+    → ((k : ℕ) → k < 64 → get_or y k 0 ≡ get_or p (from + k / 8 * stride + k % 8) 0)
+    → tabulate 64 (difference_at stride from s p) ≡ block_residual x y
+part_is s p x y stride from e f = tabulate_cong 64 _ _ (λ k h. rw (e k h, f k h))
+
+luma_place : (l : List ℕ) (b k : ℕ) → k < 64 → get_or (eight_of l b) k 0 ≡ get_or l (128 * (b / 2) + 8 * (b % 2) + k / 8 * 16 + k % 8) 0
+luma_place l b k h =
+    eight_at l b k h
+    ∙ ap (λ (n : ℕ). get_or l n 0) (let e : (8 * (b / 2) + k / 8) * 16 + (8 * (b % 2) + k % 8) ≡ 128 * (b / 2) + 8 * (b % 2) + k / 8 * 16 + k % 8 = omega arith in e)
+
+chroma_place : (l : List ℕ) (k : ℕ) → k < 64 → get_or l k 0 ≡ get_or l (0 + k / 8 * 8 + k % 8) 0
+chroma_place l k h = ap (λ (n : ℕ). get_or l n 0) (let e : k ≡ 0 + k / 8 * 8 + k % 8 = omega arith in e)
 
 module _ (s p : Samples) (b : ℕ) where
   pub luma_block : ltb b 4 ≡ true → block_residual (eight_of s.y b) (eight_of p.y b) ≡ block_residual (samples_of s b) (samples_of p b)
@@ -25,14 +43,30 @@ module _ (s p : Samples) (b : ℕ) where
       (sym (then (ltb b 4) (eight_of s.y b) (cond (eqb b 4) s.cb s.cr) e))
       (sym (then (ltb b 4) (eight_of p.y b) (cond (eqb b 4) p.cb p.cr) e))
 
-  chroma : (x : Samples) → ltb b 4 ≡ false → samples_of x b ≡ cond (eqb b 4) x.cb x.cr
-  chroma x e = else (ltb b 4) (eight_of x.y b) (cond (eqb b 4) x.cb x.cr) e
+  pub luma_part : b < 4 → tabulate 64 (difference_at 16 (128 * (b / 2) + 8 * (b % 2)) s.y p.y) ≡ block_residual (samples_of s b) (samples_of p b)
+  luma_part h =
+      part_is s.y p.y (eight_of s.y b) (eight_of p.y b) 16 (128 * (b / 2) + 8 * (b % 2)) (luma_place s.y b) (luma_place p.y b)
+      ∙ luma_block (lt-ltb b 4 h)
 
-  pub blue_block : ltb b 4 ≡ false → eqb b 4 ≡ true → block_residual s.cb p.cb ≡ block_residual (samples_of s b) (samples_of p b)
-  blue_block e f = sym (ap₂ block_residual (chroma s e ∙ then (eqb b 4) s.cb s.cr f) (chroma p e ∙ then (eqb b 4) p.cb p.cr f))
+  chroma : (x : Samples) → 4 ≤ b → samples_of x b ≡ cond (eqb b 4) x.cb x.cr
+  chroma x h = else (ltb b 4) (eight_of x.y b) (cond (eqb b 4) x.cb x.cr) (le-ltb b 4 h)
 
-  pub red_block : ltb b 4 ≡ false → eqb b 4 ≡ false → block_residual s.cr p.cr ≡ block_residual (samples_of s b) (samples_of p b)
-  red_block e f = sym (ap₂ block_residual (chroma s e ∙ else (eqb b 4) s.cb s.cr f) (chroma p e ∙ else (eqb b 4) p.cb p.cr f))
+  pub blue_block : b ≡ 4 → tabulate 64 (difference_at 8 0 s.cb p.cb) ≡ block_residual (samples_of s b) (samples_of p b)
+  blue_block e =
+      part_is s.cb p.cb s.cb p.cb 8 0 (chroma_place s.cb) (chroma_place p.cb)
+      ∙ sym
+      (ap₂ block_residual
+      (chroma s (omega arith) ∙ then (eqb b 4) s.cb s.cr (eq-eqb b 4 e))
+      (chroma p (omega arith) ∙ then (eqb b 4) p.cb p.cr (eq-eqb b 4 e)))
+
+  pub red_block : 4 < b → tabulate 64 (difference_at 8 0 s.cr p.cr) ≡ block_residual (samples_of s b) (samples_of p b)
+  red_block h =
+      let other : eqb b 4 ≡ false = ne_eqb b 4 (λ e. omega arith) in
+      part_is s.cr p.cr s.cr p.cr 8 0 (chroma_place s.cr) (chroma_place p.cr)
+      ∙ sym
+      (ap₂ block_residual
+      (chroma s (omega arith) ∙ else (eqb b 4) s.cb s.cr other)
+      (chroma p (omega arith) ∙ else (eqb b 4) p.cb p.cr other))
 
 -- block b of a residual
 abbrev pub residual_at : Samples → Samples → ℕ → List ℤ
@@ -49,7 +83,3 @@ six_in_range r len small =
   where
     whole : (i : ℕ) → i ≡ i / 64 * 64 + i % 64
     whole i = omega arith
-
-pub residual-length : (s p : Samples) → length (residual_of s p) ≡ 384
-unfolding residual_of
-residual-length s p = length-rows 64 (residual_at s p) (λ b. block_length (samples_of s b) (samples_of p b)) 6

@@ -1,16 +1,15 @@
 -- What turns a residual's entries back (rules F6 to F14, O4, O5), and what they answer.
-use Rattle.std.specs.Prelude.{ℕ, ◌&&◌, List, eqb, ℤ, pos, negsuc, length, replicate}
+use Rattle.refusal.specs.declared.Refusal.{Refusal}
+use Rattle.std.specs.Prelude.{ℕ, ◌&&◌, List, eqb, ℤ, pos, negsuc, length, Result}
 use Rattle.refusal.specs.declared.Refusal.TheVariants.{Length, Range, Choice}
-use Rattle.refusal.specs.declared.Reply.{Reply}
-use Rattle.refusal.specs.declared.Reply.TheVariants.{Done}
-use Rattle.refusal.specs.Reply.{unless, and_then, done}
+use Rattle.refusal.specs.Reply.{Reply, answer}
+use Rattle.std.specs.Prelude.{Ok}
+use Rattle.refusal.specs.Reply.{unless, and_then}
 use Rattle.refusal.specs.Test.{between, all_in_range}
 use Rattle.plane.specs.declared.SourceSize.{SourceSize}
 use Rattle.plane.specs.declared.MacroblockPlace.{MacroblockPlace}
 use Rattle.plane.specs.Source.{source_reply}
 use Rattle.quantise.specs.Block.{weight_reply}
-use Rattle.scan.specs.declared.Events.{Events}
-use Rattle.coding.specs.declared.Counted.{Counted}
 use Rattle.coding.specs.Coding.{Quantising, count_of, counts_of}
 
 -- ---- `macroblock_residual`
@@ -18,7 +17,7 @@ use Rattle.coding.specs.Coding.{Quantising, count_of, counts_of}
 -- 6, 7, 8 of planes of y, cb and cr samples; 12 of a prediction of py, pcb and pcr samples and of an area
 unfoldable pub residual_reply : SourceSize → ℕ → ℕ → ℕ → MacroblockPlace → ℕ → ℕ → ℕ → ℕ → Reply
 residual_reply size y cb cr place py pcb pcr area =
-    and_then (source_reply size y cb cr place) (unless ((eqb py 256 && (eqb pcb 64 && eqb pcr 64)) && eqb area 384) Length Done)
+    and_then (source_reply size y cb cr place) (unless ((eqb py 256 && (eqb pcb 64 && eqb pcr 64)) && eqb area 384) Length (Ok tt))
 
 -- ---- `quantise_inter_block` and `quantise_inter_residual`
 
@@ -28,11 +27,11 @@ coding_reply n residual by lasts runs levels =
     and_then (weight_reply by.quantiser by.first by.weights)
     (unless ((eqb (length residual) n && eqb (length by.weights) 64) && (eqb lasts n && (eqb runs n && eqb levels n))) Length
     (unless (all_in_range (negsuc 254) (pos 255) residual) Range
-    (unless (between 0 2 by.scan) Choice Done)))
+    (unless (between 0 2 by.scan) Choice (Ok tt))))
 
--- the reply and the number of events, none where it is refused
-abbrev pub block_events : Reply → Quantising → List ℤ → Events
-block_events reply by block = record { reply = reply; count = done reply (count_of by block) 0 }
+-- the number of events
+abbrev pub block_events : Reply → Quantising → List ℤ → Result ℕ Refusal
+block_events reply by block = answer reply (count_of by block)
 
-abbrev pub residual_events : Reply → Quantising → List ℤ → Counted
-residual_events reply by residual = record { reply = reply; counts = done reply (counts_of by residual) (replicate 6 0) }
+abbrev pub residual_events : Reply → Quantising → List ℤ → Result (List ℕ) Refusal
+residual_events reply by residual = answer reply (counts_of by residual)

@@ -1,36 +1,20 @@
-// Levels and events of a residual that is not refused, and the patterns.
+// Levels and events of a residual that is not refused, and patterns.
 ghost use Rattle.std.specs.Prelude.{◌≡◌, length};
 ghost use Rattle.reader.specs.Handed.{areas};
-ghost use Rattle.coding.specs.Coding.{quantising_of, count_of, counts_of, block_areas, areas_of, bit, luma_pattern_of, chroma_pattern_of};
-ghost use Rattle.coding.specs.Told.{CodingAccepted};
+ghost use Rattle.coding.specs.Coding.{quantising_of, count_of, counts_of, block_areas, areas_of};
+ghost use Rattle.coding.specs.Told.{pattern_of, CodingAccepted};
 
-fn bit(count: u8) -> u8
-    ensures { result ≡ bit count }
+// A bit for each block, the last block's worth 1: whether it has an event.
+pub fn pattern(counts: &[u8]) -> u8
+    ensures { result ≡ pattern_of counts.now }
 {
-    if count == 0 { 0 } else { 1 }
+    counts
+        .iter()
+        .fold(0, |bits, count| bits << 1 | u8::from(*count != 0))
 }
 
-// Block 0 is the bit worth 8, block 3 the bit worth 1.
-pub fn luma_pattern(counts: [u8; 6]) -> u8
-    ensures { result ≡ luma_pattern_of counts }
-{
-    let a = bit(counts[0]);
-    let b = bit(counts[1]);
-    let c = bit(counts[2]);
-    let d = bit(counts[3]);
-    (a << 3) | (b << 2) | (c << 1) | d
-}
-
-// Cb is worth 2, Cr 1.
-pub fn chroma_pattern(counts: [u8; 6]) -> u8
-    ensures { result ≡ chroma_pattern_of counts }
-{
-    let a = bit(counts[4]);
-    let b = bit(counts[5]);
-    (a << 1) | b
-}
-
-// The events of a block's residual, and how many there are.
+// The events of a block's residual, and how many there are. None of the four steps is refused.
+#[tactic(auto, using(crate::proofs::BlockCoding::transform_done, crate::proofs::BlockCoding::quantise_done, crate::proofs::BlockCoding::scan_done, crate::proofs::BlockCoding::events_done), unfolding(crate::specs::Coding::quantised))]
 pub fn quantise_inter_block(
     residual: &[i32],
     quantiser: u32,
@@ -49,7 +33,7 @@ pub fn quantise_inter_block(
         (result ≡ count_of by block) × (new ≡ block_areas by block) }
 {
     let mut coefficients = [0i32; 64];
-    fdct::forward_dct_8x8(residual, &mut coefficients);
+    fdct::forward_dct_8x8(residual, &mut coefficients).unwrap();
     let mut by_rows = [0i32; 64];
     quantise::quantise_block(
         &coefficients,
@@ -57,11 +41,11 @@ pub fn quantise_inter_block(
         first_method,
         weights,
         &mut by_rows,
-    );
+    )
+    .unwrap();
     let mut in_scan = [0i32; 64];
-    scan::forward_scan(&by_rows, scan, &mut in_scan);
-    let events = scan::levels_to_events(&in_scan, lasts, runs, levels);
-    events.count
+    scan::forward_scan(&by_rows, scan, &mut in_scan).unwrap();
+    scan::levels_to_events(&in_scan, lasts, runs, levels).unwrap()
 }
 
 // The events of all six blocks, each in its own area, and how many each has.

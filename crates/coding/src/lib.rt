@@ -2,7 +2,6 @@
 #![tactic(auto)]
 
 ghost use Rattle.std.specs.Prelude.{◌≡◌, length};
-ghost use Rattle.refusal.specs.declared.Reply.TheVariants.{Done};
 ghost use Rattle.refusal.specs.Reply.{done};
 ghost use Rattle.reader.specs.Handed.{areas};
 ghost use Rattle.plane.specs.Samples.{samples};
@@ -12,26 +11,19 @@ ghost use Rattle.coding.specs.Reply.{residual_reply, coding_reply, block_events,
 
 use plane::{MacroblockPlace, SourceSize};
 use refusal::{Refusal, Reply};
-use scan::Events;
 
 mod events;
 mod residual;
 
 // Block 0 is the luma pattern's bit worth 8, block 3 worth 1; Cb is the chroma pattern's bit worth 2, Cr worth 1.
-#[derive(Clone, Copy)]
+#[derive(Clone, Copy, Debug, PartialEq, Eq)]
 pub struct Patterns {
     pub luma: u8,
     pub chroma: u8,
 }
 
-// The reply, and how many events each of the six blocks has, all 0 where the call is refused.
-#[derive(Clone, Copy)]
-pub struct Counted {
-    pub reply: Reply,
-    pub counts: [u8; 6],
-}
-
 // 6, 7, 8, 12
+#[tactic(auto, unfolding(crate::specs::Reply::residual_reply))]
 fn residual_reply(
     size: SourceSize,
     y: usize,
@@ -45,13 +37,15 @@ fn residual_reply(
 ) -> Reply
     ensures { result ≡ residual_reply size y cb cr place pred_y pred_cb pred_cr area }
 {
-    let prediction = refusal::both(pred_y == 256, refusal::both(pred_cb == 64, pred_cr == 64));
-    let long = refusal::both(prediction, area == 384);
-    let second = refusal::unless(long, Refusal::Length, Reply::Done);
-    refusal::and_then(plane::source::source_reply(size, y, cb, cr, place), second)
+    plane::source::source_reply(size, y, cb, cr, place)?;
+    refusal::require(
+        pred_y == 256 && pred_cb == 64 && pred_cr == 64 && area == 384,
+        Refusal::Length,
+    )
 }
 
 // Source less prediction, in six blocks of 64: 6, 7, 8, 12. Where it is done, all 384 lie in -255..255.
+#[tactic(auto, using(crate::proofs::Accepted::residual_accepted))]
 pub fn macroblock_residual(
     y: &[u8],
     cb: &[u8],
@@ -69,9 +63,9 @@ pub fn macroblock_residual(
     ensures out_after { let source = source_of y.now cb.now cr.now size place in
         let prediction = samples pred_y.now pred_cb.now pred_cr.now in
         out.new ≡ done result (residual_of source prediction) out.old }
-    ensures residual_range { result ≡ Done → ResidualRange 384 out.new }
+    ensures residual_range { result ≡ Ok tt → ResidualRange 384 out.new }
 {
-    let reply = residual_reply(
+    residual_reply(
         size,
         y.len(),
         cb.len(),
@@ -81,27 +75,24 @@ pub fn macroblock_residual(
         pred_cb.len(),
         pred_cr.len(),
         out.len(),
-    );
-    match reply {
-        Reply::Refused(why) => Reply::Refused(why),
-        Reply::Done => {
-            residual::macroblock_residual(y, cb, cr, size, place, pred_y, pred_cb, pred_cr, out);
-            Reply::Done
-        }
-    }
+    )?;
+    residual::macroblock_residual(y, cb, cr, size, place, pred_y, pred_cb, pred_cr, out);
+    Ok(())
 }
 
 // Which of six blocks have an event.
 pub fn inter_cbp(counts: [u8; 6]) -> Patterns
     ensures { result ≡ patterns_of counts }
 {
+    let [a, b, c, d, blue, red] = counts;
     Patterns {
-        luma: events::luma_pattern(counts),
-        chroma: events::chroma_pattern(counts),
+        luma: events::pattern(&[a, b, c, d]),
+        chroma: events::pattern(&[blue, red]),
     }
 }
 
 // 10, 11, 12, 13, 14 for a residual of n places.
+#[tactic(auto, unfolding(crate::specs::Reply::coding_reply))]
 fn coding_reply(
     n: usize,
     residual: &[i32],
@@ -115,18 +106,17 @@ fn coding_reply(
 ) -> Reply
     ensures { result ≡ coding_reply n residual.now (quantising_of quantiser first_method weights.now scan) lasts runs levels }
 {
-    let known = refusal::between(0, 2, scan as usize);
-    let choice = refusal::unless(known, Refusal::Choice, Reply::Done);
-    let small = refusal::all_in_range(-255, 255, residual);
-    let range = refusal::unless(small, Refusal::Range, choice);
-    let handed = refusal::both(residual.len() == n, weights.len() == 64);
-    let areas = refusal::both(lasts == n, refusal::both(runs == n, levels == n));
-    let length = refusal::unless(refusal::both(handed, areas), Refusal::Length, range);
-    let weight = quantise::weight_reply(quantiser, first_method, weights);
-    refusal::and_then(weight, length)
+    quantise::weight_reply(quantiser, first_method, weights)?;
+    refusal::require(
+        residual.len() == n && weights.len() == 64 && lasts == n && runs == n && levels == n,
+        Refusal::Length,
+    )?;
+    refusal::require(refusal::all_in_range(-255, 255, residual), Refusal::Range)?;
+    refusal::require((0..=2).contains(&scan), Refusal::Choice)
 }
 
 // The events of a block's residual: 10, 11, 12, 13, 14.
+#[tactic(auto, using(crate::proofs::Accepted::coding_accepted))]
 pub fn quantise_inter_block(
     residual: &[i32],
     quantiser: u32,
@@ -136,15 +126,15 @@ pub fn quantise_inter_block(
     lasts: &mut [u8],
     runs: &mut [u8],
     levels: &mut [i32],
-) -> Events
+) -> Result<u8, Refusal>
     ensures { let by = quantising_of quantiser first_method weights.now scan in
         let block = residual.now in
         let reply = coding_reply 64 block by (length lasts.old) (length runs.old) (length levels.old) in
         let old = areas lasts.old runs.old levels.old in
         let new = areas lasts.new runs.new levels.new in
-        (result ≡ block_events reply by block) × (new ≡ done result.reply (block_areas by block) old) }
+        (result ≡ block_events reply by block) × (new ≡ done result (block_areas by block) old) }
 {
-    let reply = coding_reply(
+    coding_reply(
         64,
         residual,
         quantiser,
@@ -154,32 +144,21 @@ pub fn quantise_inter_block(
         lasts.len(),
         runs.len(),
         levels.len(),
-    );
-    match reply {
-        Reply::Refused(why) => Events {
-            reply: Reply::Refused(why),
-            count: 0,
-        },
-        Reply::Done => {
-            let count = events::quantise_inter_block(
-                residual,
-                quantiser,
-                first_method,
-                weights,
-                scan,
-                lasts,
-                runs,
-                levels,
-            );
-            Events {
-                reply: Reply::Done,
-                count,
-            }
-        }
-    }
+    )?;
+    Ok(events::quantise_inter_block(
+        residual,
+        quantiser,
+        first_method,
+        weights,
+        scan,
+        lasts,
+        runs,
+        levels,
+    ))
 }
 
 // The events of all six blocks, each in its own area: 10, 11, 12, 13, 14.
+#[tactic(auto, using(crate::proofs::Accepted::coding_accepted))]
 pub fn quantise_inter_residual(
     residual: &[i32],
     quantiser: u32,
@@ -189,15 +168,15 @@ pub fn quantise_inter_residual(
     lasts: &mut [u8],
     runs: &mut [u8],
     levels: &mut [i32],
-) -> Counted
+) -> Result<[u8; 6], Refusal>
     ensures { let by = quantising_of quantiser first_method weights.now scan in
         let all = residual.now in
         let reply = coding_reply 384 all by (length lasts.old) (length runs.old) (length levels.old) in
         let old = areas lasts.old runs.old levels.old in
         let new = areas lasts.new runs.new levels.new in
-        (result ≡ residual_events reply by all) × (new ≡ done result.reply (areas_of by all) old) }
+        (result ≡ residual_events reply by all) × (new ≡ done result (areas_of by all) old) }
 {
-    let reply = coding_reply(
+    coding_reply(
         384,
         residual,
         quantiser,
@@ -207,27 +186,15 @@ pub fn quantise_inter_residual(
         lasts.len(),
         runs.len(),
         levels.len(),
-    );
-    match reply {
-        Reply::Refused(why) => Counted {
-            reply: Reply::Refused(why),
-            counts: [0; 6],
-        },
-        Reply::Done => {
-            let counts = events::quantise_inter_residual(
-                residual,
-                quantiser,
-                first_method,
-                weights,
-                scan,
-                lasts,
-                runs,
-                levels,
-            );
-            Counted {
-                reply: Reply::Done,
-                counts,
-            }
-        }
-    }
+    )?;
+    Ok(events::quantise_inter_residual(
+        residual,
+        quantiser,
+        first_method,
+        weights,
+        scan,
+        lasts,
+        runs,
+        levels,
+    ))
 }

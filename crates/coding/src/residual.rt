@@ -1,40 +1,26 @@
 // Source less prediction, block by block.
-ghost use Rattle.std.specs.Prelude.{◌≡◌, true, ◌<◌, pos, negsuc, ◌-ℤ◌, length};
-ghost use Rattle.refusal.specs.Test.{in_range};
-ghost use Rattle.plane.specs.Source.{eight_of};
+ghost use Rattle.std.specs.Prelude.{◌≡◌, length};
+ghost use Rattle.basis.specs.Lists.{tabulate};
 ghost use Rattle.plane.specs.Samples.{samples};
 ghost use Rattle.coding.specs.Residual.{samples_of, block_residual, residual_of, source_of, ResidualRange};
-ghost use Rattle.coding.specs.Told.{Whole, LumaNeeds, ResidualAccepted};
+ghost use Rattle.coding.specs.Told.{Whole, difference_at, PartNeeds, ResidualAccepted};
 
 use plane::{MacroblockPlace, SourceSize};
 
-fn difference(a: u8, b: u8) -> i32
-    ensures { (result ≡ pos a -ℤ pos b) × (in_range (negsuc 254) (pos 255) result ≡ true) }
-{
-    (a as i32) - (b as i32)
-}
-
-// 8 x 8 block n of two macroblocks' luma.
-fn luma_residual(source: &[u8], prediction: &[u8], n: usize, out: &mut [i32])
-    requires { LumaNeeds (length source.now) (length prediction.now) n (length out.old) }
-    ensures out_after { out.new ≡ block_residual (eight_of source.now n) (eight_of prediction.now n) }
-    ensures residual_range { ResidualRange 64 out.new }
-{
-    let row = 8 * (n / 2);
-    let column = 8 * (n % 2);
-    for k in 0..64usize {
-        let at = (row + k / 8) * 16 + (column + k % 8);
-        out[k] = difference(source[at], prediction[at]);
-    }
-}
-
-fn chroma_residual(source: &[u8], prediction: &[u8], out: &mut [i32])
-    requires { (length source.now ≡ 64) × (length prediction.now ≡ 64) × (length out.old ≡ 64) }
-    ensures out_after { out.new ≡ block_residual source.now prediction.now }
+// 8 x 8 samples, from one place on in rows STRIDE apart, less those predicted there.
+fn part_residual<const STRIDE: usize>(
+    source: &[u8],
+    prediction: &[u8],
+    from: usize,
+    out: &mut [i32],
+)
+    requires { PartNeeds STRIDE from (length source.now) (length prediction.now) (length out.old) }
+    ensures out_after { out.new ≡ tabulate 64 (difference_at STRIDE from source.now prediction.now) }
     ensures residual_range { ResidualRange 64 out.new }
 {
     for k in 0..64usize {
-        out[k] = difference(source[k], prediction[k]);
+        let at = from + k / 8 * STRIDE + k % 8;
+        out[k] = i32::from(source[at]) - i32::from(prediction[at]);
     }
 }
 
@@ -58,14 +44,14 @@ fn block_residual(
     ensures residual_range { ResidualRange 64 out.new }
 {
     if b < 4 {
-        luma_residual(y, pred_y, b, out);
+        part_residual::<16>(y, pred_y, 128 * (b / 2) + 8 * (b % 2), out);
         return;
     }
     if b == 4 {
-        chroma_residual(cb, pred_cb, out);
+        part_residual::<8>(cb, pred_cb, 0, out);
         return;
     }
-    chroma_residual(cr, pred_cr, out);
+    part_residual::<8>(cr, pred_cr, 0, out);
 }
 
 // All six.
@@ -113,10 +99,10 @@ pub fn macroblock_residual(
     ensures residual_range { ResidualRange 384 out.new }
 {
     let mut luma = [0u8; 256];
-    plane::source::luma_block(y, size, place, &mut luma);
+    plane::source::luma_block(y, size, place, &mut luma).unwrap();
     let mut blue = [0u8; 64];
-    plane::source::chroma_block(cb, size, place, &mut blue);
+    plane::source::chroma_block(cb, size, place, &mut blue).unwrap();
     let mut red = [0u8; 64];
-    plane::source::chroma_block(cr, size, place, &mut red);
+    plane::source::chroma_block(cr, size, place, &mut red).unwrap();
     six_residuals(&luma, &blue, &red, pred_y, pred_cb, pred_cr, out);
 }

@@ -3,19 +3,15 @@
 
 #![tactic(auto)]
 
-use std::fs;
 use std::os::fd::AsRawFd;
+use std::{fs, io};
 
 mod examples;
 mod tally;
 
-// The descriptor of standard output.
-const STDOUT: i32 = 1;
-
-fn main(rt: HostRuntime) -> std::io::Result<()> {
-    examples::report_all();
+fn main(rt: HostRuntime) -> io::Result<()> {
+    examples::report_all(&rt)?;
     let input = fs::open(&rt, "calls")?;
     let tally = tally::replay_all(input.as_raw_fd());
-    tally::print_all(tally);
-    Ok(())
+    tally::print_all(&rt, &tally)
 }

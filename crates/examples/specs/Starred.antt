@@ -1,4 +1,5 @@
--- The starred worked examples of docs/RULES.md, X, and those of the chroma vector, a row each. They are about the definitions that the promises cite.
+-- The starred worked examples of docs/RULES.md, X, and those of the chroma vector, a row each. They are about the definitions that the
+-- promises cite.
 use Rattle.std.specs.Prelude.{ℕ, Bool, true, false, not, ◌&&◌, List, [], ◌∷◌, eqb, ℤ, pos, negsuc, ◌+ℤ◌, length, get_or, set, replicate}
 use Rattle.std.specs.Int.Signed.{le_z}
 use Rattle.half_sample.specs.declared.HalfPel.{HalfPel}

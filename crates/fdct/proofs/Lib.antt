@@ -1,7 +1,6 @@
 -- Laws that several proofs cite.
 mod Cuts
 mod Limits
-mod Lengths
 mod Lines
 mod Signs
 mod Whole

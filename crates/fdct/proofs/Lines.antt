@@ -3,14 +3,16 @@ use Prim.Native.Nat.{ℕ, zero, suc, ◌+◌, ◌*◌, ◌/◌, ◌%◌, ◌<◌
 use native.Mathlib.Numerals.{add-one}
 use native.Mathlib.Omega.{arith}
 use mathlib.Core.List.{List}
-use mathlib.Core.Path.{◌≡◌, refl, sym, ap, ap₂, ◌∙◌}
+use mathlib.Core.Path.{◌≡◌, refl, sym, ap, ap₂, ◌∙◌, subst}
 use native.Mathlib.Nat.{mul_comm}
 use mathlib.Core.Bool.{Bool, true, false, cond}
 use lib.Dec.{eqb}
 use lib.Ieee.{Float, nan, inf, fin, binary64, up, down, unlike, round, add, mul}
-use lib.ListN.{get_or}
+use lib.ListN.{length, get_or, set}
+use lib.Seq.{get_or-set_same, get_or-set_other}
+use borrow.Author.Tests.{eqb-true, eqb-false}
 use Rattle.basis.specs.Lists.{tabulate}
-use Rattle.basis.proofs.Lists.{get_or-tabulate, tabulate_cong}
+use Rattle.basis.proofs.Lists.{get_or-tabulate, tabulate_cong, tabulate_same}
 use Rattle.fdct.specs.Cosine.{cosine, cosines}
 use Rattle.fdct.specs.Double.{half_double}
 use Rattle.fdct.specs.Line.{weighted_sum, weight, fdct1d}
@@ -25,6 +27,25 @@ column_of_lem u x h = omega arith
 
 pub inside : (u x : ℕ) → u < 8 → x < 8 → u * 8 + x < 64
 inside u x h k = omega arith
+
+-- a list of n entries, each of which is told
+pub each_is : (n : ℕ) (f : ℕ → Float) (l : List Float) (d : Float) → length l ≡ n → ((i : ℕ) → i < n → get_or l i d ≡ f i) → l ≡ tabulate n f
+each_is n f l d long each = sym (tabulate_same n l d long) ∙ tabulate_cong n (λ i. get_or l i d) f each
+
+-- one entry more is told: r is the scale at its place
+pub scaled_more : (P : ℕ → Float → Type 0) (sums out : List Float) (i : ℕ) (r : Float) → i < length out → P i r
+    → ((k : ℕ) → k < i → (s : Float) × P k s × (entries out k ≡ mul binary64 s (entries sums k)))
+    → (k : ℕ) → k < i + 1 → (s : Float) × P k s × (entries (set out i (mul binary64 r (entries sums i))) k ≡ mul binary64 s (entries sums k))
+scaled_more P sums out i r room p below k h = by (eqb k i) refl
+  where
+    by : (t : Bool) → eqb k i ≡ t → (s : Float) × P k s × (entries (set out i (mul binary64 r (entries sums i))) k ≡ mul binary64 s (entries sums k))
+    by true e =
+        subst (λ (n : ℕ). (s : Float) × P n s × (entries (set out i (mul binary64 r (entries sums i))) n ≡ mul binary64 s (entries sums n))) (sym (eqb-true k i e))
+        (r, p, get_or-set_same out i (mul binary64 r (entries sums i)) nan room)
+    by false e =
+        let other = eqb-false k i e in
+        let w = below k (omega arith) in
+        (w.0, w.1, get_or-set_other out i k (mul binary64 r (entries sums i)) nan other ∙ w.2)
 
 -- the tables' entries for u and x
 table_at : (table : List Float) → table ≡ cosines → (u x : ℕ) → u < 8 → x < 8 → get_or table (u * 8 + x) nan ≡ cosine u x

@@ -2,11 +2,11 @@
 -- no answer that an output area could be as long as, so it is 12 too.
 use Rattle.std.specs.Prelude.{ℕ, ◌&&◌, List, eqb, ℤ, pos, negsuc, length}
 use Rattle.refusal.specs.declared.Refusal.TheVariants.{Length, Range}
-use Rattle.refusal.specs.declared.Reply.{Reply}
-use Rattle.refusal.specs.declared.Reply.TheVariants.{Done}
+use Rattle.refusal.specs.Reply.{Reply}
+use Rattle.std.specs.Prelude.{Ok}
 use Rattle.refusal.specs.Reply.{unless, and_then}
 use Rattle.refusal.specs.Test.{all_in_range}
 
 -- of a residual, and an output area of n places: lengths of 64, then each residual in -255..255
 unfoldable pub dct_reply : List ℤ → ℕ → Reply
-dct_reply r n = and_then (unless (eqb (length r) 64 && eqb n 64) Length Done) (unless (all_in_range (negsuc 254) (pos 255) r) Range Done)
+dct_reply r n = and_then (unless (eqb (length r) 64 && eqb n 64) Length (Ok tt)) (unless (all_in_range (negsuc 254) (pos 255) r) Range (Ok tt))

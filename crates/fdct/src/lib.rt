@@ -16,14 +16,12 @@ mod line;
 mod rounding;
 
 // What turns a transform back: 12, 13.
+#[tactic(auto, unfolding(crate::specs::Reply::dct_reply))]
 fn dct_reply(residual: &[i32], area: usize) -> Reply
     ensures { result ≡ dct_reply residual.now area }
 {
-    let sizes = refusal::both(residual.len() == 64, area == 64);
-    let length = refusal::unless(sizes, Refusal::Length, Reply::Done);
-    let within = refusal::all_in_range(-255, 255, residual);
-    let range = refusal::unless(within, Refusal::Range, Reply::Done);
-    refusal::and_then(length, range)
+    refusal::require(residual.len() == 64 && area == 64, Refusal::Length)?;
+    refusal::require(refusal::all_in_range(-255, 255, residual), Refusal::Range)
 }
 
 // The residuals as doubles.
@@ -32,7 +30,7 @@ fn to_doubles(residual: &[i32], block: &mut [f64])
     ensures { block.new ≡ tabulate 64 (sample_at residual.now) }
 {
     for k in 0..64usize {
-        block[k] = residual[k] as f64;
+        block[k] = f64::from(residual[k]);
     }
 }
 
@@ -64,16 +62,12 @@ fn transform(residual: &[i32], out: &mut [i32])
 }
 
 // The coefficients of a block of 8 x 8 residuals, at 8 bits: 12, 13.
+#[tactic(auto, unfolding(crate::specs::Reply::dct_reply))]
 pub fn forward_dct_8x8(residual: &[i32], out: &mut [i32]) -> Reply
     ensures value { result ≡ dct_reply residual.now (length out.old) }
     ensures out_after { out.new ≡ done result (coefficients residual.now) out.old }
 {
-    let reply = dct_reply(residual, out.len());
-    match reply {
-        Reply::Refused(why) => Reply::Refused(why),
-        Reply::Done => {
-            transform(residual, out);
-            Reply::Done
-        }
-    }
+    dct_reply(residual, out.len())?;
+    transform(residual, out);
+    Ok(())
 }

@@ -1,10 +1,9 @@
 // The 8-point transform of a block's rows and of its columns, eight sums side by side. Each sum runs in the order of rule T2.
-ghost use Rattle.std.specs.Prelude.{◌≡◌, ◌+◌, ◌*◌, ◌<◌, length};
+ghost use Rattle.std.specs.Prelude.{◌≡◌, ℕ, Float, ◌+◌, ◌*◌, ◌<◌, length};
 ghost use Rattle.std.specs.Float.Ieee.{add, mul};
 ghost use Rattle.std.specs.Float.{binary64};
 ghost use Rattle.basis.specs.Lists.{tabulate, raster};
 ghost use Rattle.fdct.specs.Cosine.{cosines};
-ghost use Rattle.fdct.specs.Double.{half_double};
 ghost use Rattle.fdct.specs.Line.{weight};
 ghost use Rattle.fdct.specs.Told.{entries, row_of, column_of, dot, swapped_cosines, across_at, passed_at};
 
@@ -43,13 +42,15 @@ fn weighted_sums(table: &[f64; 64], block: &[f64; 64], u: usize) -> [f64; 8]
     sums
 }
 
-// The sums times 0.5 × c.
-fn scale_row(sums: &[f64; 8], scale: f64, out: &mut [f64])
-    requires { length out.old ≡ 8 }
-    ensures { out.new ≡ tabulate 8 (λ j. mul binary64 scale (entries sums.now j)) }
+// Each sum times the scale of its place.
+fn scale_row<F: Fn(usize) -> f64>(sums: &[f64; 8], scale: F, out: &mut [f64])
+    requires long { length out.old ≡ 8 }
+    requires callable { (j : ℕ) → j < 8 → F.pre scale j }
+    ensures len { length out.new ≡ 8 }
+    ensures each { (j : ℕ) → j < 8 → (s : Float) × F.post scale j s × (entries out.new j ≡ mul binary64 s (entries sums.now j)) }
 {
     for j in 0..8usize {
-        out[j] = scale * sums[j];
+        out[j] = scale(j) * sums[j];
     }
 }
 
@@ -62,17 +63,8 @@ pub fn fdct_1d_columns(table: &[f64; 64], block: &[f64; 64], out: &mut [f64])
         let from = u * 8;
         let to = from + 8;
         let sums = weighted_sums(table, block, u);
-        scale_row(&sums, 0.5 * c(u), &mut out[from..to]);
-    }
-}
-
-// Each sum times the 0.5 × c of its place.
-fn scale_places(sums: &[f64; 8], out: &mut [f64])
-    requires { length out.old ≡ 8 }
-    ensures { out.new ≡ tabulate 8 (λ j. mul binary64 (mul binary64 half_double (weight j)) (entries sums.now j)) }
-{
-    for j in 0..8usize {
-        out[j] = 0.5 * c(j) * sums[j];
+        let scale = 0.5 * c(u);
+        scale_row(&sums, |_| scale, &mut out[from..to]);
     }
 }
 
@@ -85,6 +77,6 @@ pub fn fdct_1d_rows(table: &[f64; 64], block: &[f64; 64], out: &mut [f64])
         let from = y * 8;
         let to = from + 8;
         let sums = weighted_sums(block, table, y);
-        scale_places(&sums, &mut out[from..to]);
+        scale_row(&sums, |j| 0.5 * c(j), &mut out[from..to]);
     }
 }

@@ -1,9 +1,9 @@
 // A double as a coefficient: clamped, then to the nearest, halves away from zero. Each step is one that compilers do on several doubles
 // at once, so no double is cast before it is a whole number.
-ghost use Rattle.std.specs.Prelude.{◌≡◌, true, false, cond, T, pos, nat_abs, ◌-ℤ◌, ◌≤◌};
+ghost use Rattle.std.specs.Prelude.{◌≡◌, false, T, pos};
 ghost use Rattle.std.specs.Float.Ieee as Ieee;
-ghost use Rattle.std.specs.Float.{fin, binary64};
-ghost use Rattle.fdct.specs.Double.{zero_double, half_double, one_double};
+ghost use Rattle.std.specs.Float.{fin};
+ghost use Rattle.fdct.specs.Double.{zero_double};
 ghost use Rattle.fdct.specs.Rounding.{rounded_size, coefficient_of};
 ghost use Rattle.fdct.specs.Told.{sized, known, not_above, not_below, rested, carried};
 
@@ -57,16 +57,10 @@ fn nearest_up(x: f64) -> i32
     (t + carried(t, x)) as i32
 }
 
-fn with_sign(minus: bool, n: i32) -> i32
-    requires { nat_abs n ≤ 4096 }
-    ensures { result ≡ cond minus (pos 0 -ℤ n) n }
-{
-    if minus { 0 - n } else { n }
-}
-
 pub fn coefficient_of(x: f64) -> i32
     ensures { result ≡ coefficient_of x }
 {
     let z = at_least(at_most(known(x)));
-    with_sign(z < 0.0, nearest_up(size(z)))
+    let n = nearest_up(size(z));
+    if z < 0.0 { -n } else { n }
 }

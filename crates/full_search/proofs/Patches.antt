@@ -9,8 +9,8 @@ use lib.IntN.{◌+ℤ◌, pos}
 use lib.ListN.{length, get_or}
 use Rattle.basis.proofs.Bounds.{row_before}
 use Rattle.basis.proofs.Lists.{get_or-raster, length-raster}
-use Rattle.refusal.specs.declared.Reply.{Reply}
-use Rattle.refusal.specs.declared.Reply.TheVariants.{Done}
+use Rattle.refusal.specs.Reply.{Reply}
+use Rattle.std.specs.Prelude.{Ok}
 use Rattle.refusal.specs.Reply.{done}
 use Rattle.record.specs.declared.MotionVector.{MotionVector}
 use Rattle.plane.specs.declared.Geometry.{Geometry}
@@ -26,7 +26,7 @@ use Rattle.full_search.proofs.Shown.{farther}
 
 -- a copy of a usable reference into an area that fits
 pub copy_is : (s : List ℕ) (g : Geometry) (at at' : Point) (w h : ℕ) (r : Reply) (old out : List ℕ)
-    → reference_reply g (length s) ≡ Done → length old ≡ w * h → at ≡ at'
+    → reference_reply g (length s) ≡ Ok tt → length old ≡ w * h → at ≡ at'
     → r ≡ copy_reply g (length s) w h (length old) → out ≡ done r (copied_block (plane_of s g) at w h) old → out ≡ copied_block (plane_of s g) at' w h
 copy_is s g at at' w h r old out e f p k o =
     o

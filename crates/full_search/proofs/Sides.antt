@@ -1,5 +1,5 @@
 -- The side of a block is 8 or 16. Assumes nothing.
-use Prim.Native.Nat.{ℕ, zero, suc, ◌+◌, ◌-◌, ◌*◌, ◌≤◌}
+use Prim.Native.Nat.{ℕ, zero, suc, ◌+◌, ◌-◌, ◌*◌, ◌/◌, ◌≤◌}
 use native.Mathlib.Omega.{arith}
 use mathlib.Core.Bool.{true}
 use mathlib.Core.List.{List}
@@ -17,6 +17,10 @@ side_least n e = or_elim (eqb n 8) (eqb n 16) (1 ≤ n) (λ q. omega (arith, eqb
 
 pub side_most : (n : ℕ) → is_side n ≡ true → n ≤ 16
 side_most n e = or_elim (eqb n 8) (eqb n 16) (n ≤ 16) (λ q. omega (arith, eqb-true n 8 q)) (λ q. omega (arith, eqb-true n 16 q)) e
+
+pub side_even : (n : ℕ) → is_side n ≡ true → 2 * (n / 2) ≡ n
+side_even n e =
+    or_elim (eqb n 8) (eqb n 16) (2 * (n / 2) ≡ n) (λ q. omega (arith, eqb-true n 8 q)) (λ q. omega (arith, eqb-true n 16 q)) e
 
 pub area_most : (n : ℕ) → is_side n ≡ true → n * n ≤ 256
 area_most n e = product_le (side_most n e) (side_most n e)

@@ -12,9 +12,9 @@ use Rattle.basis.specs.Parts.{above, below}
 use Rattle.basis.proofs.Case.{both}
 use Rattle.basis.proofs.Parts.{sides}
 use Rattle.refusal.specs.declared.Refusal.TheVariants.{Fcode, Place, Seed, Choice}
-use Rattle.refusal.specs.declared.Reply.{Reply}
-use Rattle.refusal.specs.declared.Reply.TheVariants.{Done}
-use Rattle.refusal.specs.Reply.{unless, and_then, done}
+use Rattle.refusal.specs.Reply.{Reply}
+use Rattle.std.specs.Prelude.{Ok}
+use Rattle.refusal.specs.Reply.{unless, and_then, answer, done}
 use Rattle.refusal.specs.Test.{in_range}
 use Rattle.refusal.proofs.Replies.{first_done, then_done, both_done, passed, unless-done}
 use Rattle.refusal.proofs.Tests.{and_left, and_right, range-low, range-high, range_is}
@@ -26,7 +26,7 @@ use Rattle.prediction.specs.declared.BVopSampleMode.{BVopSampleMode}
 use Rattle.full_search.specs.declared.Target.{Target}
 use Rattle.full_search.specs.Block.{differences, row_by_row, block_of}
 use Rattle.full_search.specs.Won.{window_reply, placed_reply, square_reply, sixteen_reply, seed_size_reply, eight_reply, sum_reply}
-use Rattle.full_search.specs.Won.{sixteen_best, eight_best, won, sixteen_won, eight_won, sum_of}
+use Rattle.full_search.specs.Won.{sixteen_best, eight_best, sixteen_won, eight_won, sum_of}
 use Rattle.full_search.specs.Told.{Within, Inside, Ready}
 use Rattle.full_search.specs.ToldKept.{SeedReady}
 
@@ -69,46 +69,46 @@ seed_small seed e =
 
 module _ (bytes : ℕ) (t : Target) where
   abbrev corner_reply : Reply
-  corner_reply = unless (within t.corner.x && within t.corner.y) Place Done
+  corner_reply = unless (within t.corner.x && within t.corner.y) Place (Ok tt)
 
-  placed_is : placed_reply bytes t ≡ Done → (reference_reply t.geometry bytes ≡ Done) × Inside t.corner
+  placed_is : placed_reply bytes t ≡ Ok tt → (reference_reply t.geometry bytes ≡ Ok tt) × Inside t.corner
   unfolding placed_reply
   placed_is e = (
     first_done (reference_reply t.geometry bytes) corner_reply e,
     inside_is t.corner
-        (unless-done (within t.corner.x && within t.corner.y) Place Done (then_done (reference_reply t.geometry bytes) corner_reply e)),
+        (unless-done (within t.corner.x && within t.corner.y) Place (Ok tt) (then_done (reference_reply t.geometry bytes) corner_reply e)),
   )
 
-  placed-done : reference_reply t.geometry bytes ≡ Done → Inside t.corner → placed_reply bytes t ≡ Done
+  placed-done : reference_reply t.geometry bytes ≡ Ok tt → Inside t.corner → placed_reply bytes t ≡ Ok tt
   unfolding placed_reply
   placed-done e h = both_done e (passed (within t.corner.x && within t.corner.y) Place (is_inside t.corner h) refl)
 
 module _ (side area : ℕ) (t : Target) where
-  square_is : square_reply side area t ≡ Done → (area ≡ side * side) × (t.side ≡ side)
+  square_is : square_reply side area t ≡ Ok tt → (area ≡ side * side) × (t.side ≡ side)
   unfolding square_reply
   square_is e =
-      let last = unless (eqb t.side side) Choice Done in (
+      let last = unless (eqb t.side side) Choice (Ok tt) in (
         length_is area side side (first_done (length_reply area side side) last e),
-        eqb-true t.side side (unless-done (eqb t.side side) Choice Done (then_done (length_reply area side side) last e)),
+        eqb-true t.side side (unless-done (eqb t.side side) Choice (Ok tt) (then_done (length_reply area side side) last e)),
       )
 
-  square_done : area ≡ side * side → t.side ≡ side → square_reply side area t ≡ Done
+  square_done : area ≡ side * side → t.side ≡ side → square_reply side area t ≡ Ok tt
   unfolding square_reply
   square_done e f = both_done (length-done area side side e) (passed (eqb t.side side) Choice (eq-eqb t.side side f) refl)
 
-window_is : (w : ℕ) → window_reply w ≡ Done → w ≤ 1023
+window_is : (w : ℕ) → window_reply w ≡ Ok tt → w ≤ 1023
 unfolding window_reply
-window_is w e = leb-true w 1023 (unless-done (leb w 1023) Fcode Done e)
+window_is w e = leb-true w 1023 (unless-done (leb w 1023) Fcode (Ok tt) e)
 
-window-done : (w : ℕ) → w ≤ 1023 → window_reply w ≡ Done
+window-done : (w : ℕ) → w ≤ 1023 → window_reply w ≡ Ok tt
 unfolding window_reply
 window-done w h = passed (leb w 1023) Fcode (le-leb w 1023 h) refl
 
-seed_is : (seed : MotionVector) → seed_size_reply seed ≡ Done → vector_in_range seed ≡ true
+seed_is : (seed : MotionVector) → seed_size_reply seed ≡ Ok tt → vector_in_range seed ≡ true
 unfolding seed_size_reply
-seed_is seed e = unless-done (vector_in_range seed) Seed Done e
+seed_is seed e = unless-done (vector_in_range seed) Seed (Ok tt) e
 
-seed_done : (seed : MotionVector) → vector_in_range seed ≡ true → seed_size_reply seed ≡ Done
+seed_done : (seed : MotionVector) → vector_in_range seed ≡ true → seed_size_reply seed ≡ Ok tt
 unfolding seed_size_reply
 seed_done seed e = passed (vector_in_range seed) Seed e refl
 
@@ -116,7 +116,7 @@ seed_done seed e = passed (vector_in_range seed) Seed e refl
 
 module _ (source samples : List ℕ) (t : Target) where
   -- what holds of a target whose side is known
-  ready_is : (side : ℕ) → is_side side ≡ true → placed_reply (length samples) t ≡ Done → square_reply side (length source) t ≡ Done → Ready source samples t
+  ready_is : (side : ℕ) → is_side side ≡ true → placed_reply (length samples) t ≡ Ok tt → square_reply side (length source) t ≡ Ok tt → Ready source samples t
   ready_is side h p q =
       let place = placed_is (length samples) t p in
       let square = square_is side (length source) t q in
@@ -127,12 +127,12 @@ module _ (source samples : List ℕ) (t : Target) where
         inside = place.1;
       }
 
-  square_ready : (side : ℕ) → Ready source samples t → t.side ≡ side → square_reply side (length source) t ≡ Done
+  square_ready : (side : ℕ) → Ready source samples t → t.side ≡ side → square_reply side (length source) t ≡ Ok tt
   square_ready side r e = square_done side (length source) t (r.source_fits ∙ ap (λ (n : ℕ). n * n) e) e
 
   module _ (w : ℕ) where
     -- one vector
-    pub sixteen_is : sixteen_reply (length source) (length samples) t w ≡ Done → Ready source samples t × (t.side ≡ 16) × (w ≤ 1023)
+    pub sixteen_is : sixteen_reply (length source) (length samples) t w ≡ Ok tt → Ready source samples t × (t.side ≡ 16) × (w ≤ 1023)
     unfolding sixteen_reply
     sixteen_is e =
         let place = placed_reply (length samples) t in
@@ -144,19 +144,19 @@ module _ (source samples : List ℕ) (t : Target) where
           window_is w (first_done (window_reply w) (and_then place square) e),
         )
 
-    pub sixteen_done : Ready source samples t → t.side ≡ 16 → w ≤ 1023 → sixteen_reply (length source) (length samples) t w ≡ Done
+    pub sixteen_done : Ready source samples t → t.side ≡ 16 → w ≤ 1023 → sixteen_reply (length source) (length samples) t w ≡ Ok tt
     unfolding sixteen_reply
     sixteen_done r e h =
         both_done (window-done w h) (both_done (placed-done (length samples) t r.reference r.inside) (square_ready 16 r e))
 
     pub sixteen_won_lem : (fcode : ℕ) → Ready source samples t → t.side ≡ 16 → w ≤ 1023
-        → sixteen_won source samples t fcode w ≡ won Done (sixteen_best (block_of source samples t) fcode w)
+        → sixteen_won source samples t fcode w ≡ Ok (sixteen_best (block_of source samples t) fcode w)
     unfolding sixteen_won
-    sixteen_won_lem fcode r e h = ap (λ (x : Reply). won x (sixteen_best (block_of source samples t) fcode w)) (sixteen_done r e h)
+    sixteen_won_lem fcode r e h = ap (λ (x : Reply). answer x (sixteen_best (block_of source samples t) fcode w)) (sixteen_done r e h)
 
     -- one of four
     module _ (seed : MotionVector) where
-      pub eight_is : eight_reply (length source) (length samples) t w seed ≡ Done → SeedReady source samples t seed
+      pub eight_is : eight_reply (length source) (length samples) t w seed ≡ Ok tt → SeedReady source samples t seed
       unfolding eight_reply
       eight_is e =
           let place = placed_reply (length samples) t in
@@ -172,32 +172,32 @@ module _ (source samples : List ℕ) (t : Target) where
           }
 
       pub eight-done : Ready source samples t → t.side ≡ 8 → w ≤ 1023 → vector_in_range seed ≡ true
-          → eight_reply (length source) (length samples) t w seed ≡ Done
+          → eight_reply (length source) (length samples) t w seed ≡ Ok tt
       unfolding eight_reply
       eight-done r e h v =
           both_done (window-done w h)
           (both_done (placed-done (length samples) t r.reference r.inside) (both_done (seed_done seed v) (square_ready 8 r e)))
 
       pub eight-won : (m : BVopSampleMode) → Ready source samples t → t.side ≡ 8 → w ≤ 1023 → vector_in_range seed ≡ true
-          → eight_won source samples t m w seed ≡ won Done (eight_best (block_of source samples t) m w seed)
+          → eight_won source samples t m w seed ≡ Ok (eight_best (block_of source samples t) m w seed)
       unfolding eight_won
-      eight-won m r e h v = ap (λ (x : Reply). won x (eight_best (block_of source samples t) m w seed)) (eight-done r e h v)
+      eight-won m r e h v = ap (λ (x : Reply). answer x (eight_best (block_of source samples t) m w seed)) (eight-done r e h v)
 
 -- ---- sums
 
 module _ (area area' side : ℕ) where
-  pub sum_is : sum_reply area area' side ≡ Done → (is_side side ≡ true) × (area ≡ side * side) × (area' ≡ side * side)
+  pub sum_is : sum_reply area area' side ≡ Ok tt → (is_side side ≡ true) × (area ≡ side * side) × (area' ≡ side * side)
   unfolding sum_reply side_reply
   sum_is e =
       let a = length_reply area side side in
       let b = length_reply area' side side in
       let k = then_done (side_reply side side) (and_then a b) e in (
-        and_left (is_side side) (is_side side) (unless-done (is_side side && is_side side) Choice Done (first_done (side_reply side side) (and_then a b) e)),
+        and_left (is_side side) (is_side side) (unless-done (is_side side && is_side side) Choice (Ok tt) (first_done (side_reply side side) (and_then a b) e)),
         length_is area side side (first_done a b k),
         length_is area' side side (then_done a b k),
       )
 
-  pub sum_done : is_side side ≡ true → area ≡ side * side → area' ≡ side * side → sum_reply area area' side ≡ Done
+  pub sum_done : is_side side ≡ true → area ≡ side * side → area' ≡ side * side → sum_reply area area' side ≡ Ok tt
   unfolding sum_reply side_reply
   sum_done h e f =
       both_done (passed (is_side side && is_side side) Choice (both h h) refl)

@@ -9,8 +9,8 @@ use lib.Dec.{ltb}
 use lib.ListN.{length}
 use Rattle.basis.proofs.Case.{both}
 use Rattle.refusal.specs.declared.Refusal.TheVariants.{ReferenceBytes, Choice}
-use Rattle.refusal.specs.declared.Reply.{Reply}
-use Rattle.refusal.specs.declared.Reply.TheVariants.{Done}
+use Rattle.refusal.specs.Reply.{Reply}
+use Rattle.std.specs.Prelude.{Ok}
 use Rattle.refusal.specs.Reply.{and_then, done}
 use Rattle.refusal.proofs.Replies.{first_done, then_done, both_done, passed, unless-done}
 use Rattle.refusal.proofs.Tests.{and_left}
@@ -26,22 +26,22 @@ abbrev last_of : ℕ → ℕ → ℕ
 last_of stride side = (side - 1) * stride + (side - 1)
 
 module _ (area bytes at stride side : ℕ) where
-  pub window_is : window_sum_reply area bytes at stride side ≡ Done
+  pub window_is : window_sum_reply area bytes at stride side ≡ Ok tt
       → (is_side side ≡ true) × (area ≡ side * side) × (at + (side - 1) * stride + side ≤ bytes)
   unfolding window_sum_reply side_reply reference_bytes_reply
   window_is e =
       let a = length_reply area side side in
       let b = reference_bytes_reply (square_of side stride) (bytes - at) in
       let k = then_done (side_reply side side) (and_then a b) e in
-      let h = unless-done (is_side side && is_side side) Choice Done (first_done (side_reply side side) (and_then a b) e) in
+      let h = unless-done (is_side side && is_side side) Choice (Ok tt) (first_done (side_reply side side) (and_then a b) e) in
       let s = and_left (is_side side) (is_side side) h in
-      let l = unless-done (ltb (last_of stride side) (bytes - at)) ReferenceBytes Done (then_done a b k) in (
+      let l = unless-done (ltb (last_of stride side) (bytes - at)) ReferenceBytes (Ok tt) (then_done a b k) in (
         s,
         length_is area side side (first_done a b k),
         omega (arith, side_least side s, ltb-true (last_of stride side) (bytes - at) l),
       )
 
-  pub window-done : is_side side ≡ true → area ≡ side * side → at + (side - 1) * stride + side ≤ bytes → window_sum_reply area bytes at stride side ≡ Done
+  pub window-done : is_side side ≡ true → area ≡ side * side → at + (side - 1) * stride + side ≤ bytes → window_sum_reply area bytes at stride side ≡ Ok tt
   unfolding window_sum_reply side_reply reference_bytes_reply
   window-done h e f =
       both_done (passed (is_side side && is_side side) Choice (both h h) refl)

@@ -1,7 +1,7 @@
 -- Told, not believed: what private functions are told of displacements, blocks and references.
 use Rattle.std.specs.Prelude.{ℕ, ◌*◌, ◌≤◌, true, List, ◌≡◌, ◌+ℤ◌, length}
 use Rattle.basis.specs.Parts.{above, below}
-use Rattle.refusal.specs.declared.Reply.TheVariants.{Done}
+use Rattle.std.specs.Prelude.{Ok}
 use Rattle.record.specs.declared.MotionVector.{MotionVector}
 use Rattle.plane.specs.declared.Point.{Point}
 use Rattle.plane.specs.Reference.{reference_reply, is_side}
@@ -29,5 +29,5 @@ moved_to o d = record { x = o.x +ℤ d.x; y = o.y +ℤ d.y }
 pub record Ready (source samples : List ℕ) (t : Target) : Type 0 where
   pub is_side_is : is_side t.side ≡ true
   pub source_fits : length source ≡ t.side * t.side
-  pub reference : reference_reply t.geometry (length samples) ≡ Done
+  pub reference : reference_reply t.geometry (length samples) ≡ Ok tt
   pub inside : Inside t.corner

@@ -4,12 +4,11 @@ use Rattle.basis.specs.Sums.{sum_to, abs_diff}
 use Rattle.record.specs.declared.MotionVector.{MotionVector}
 use Rattle.record.specs.Zero.{zero_vector}
 use Rattle.plane.specs.declared.Point.{Point}
-use Rattle.plane.specs.Plane.{Plane, plane_of, copied, copied_block}
+use Rattle.plane.specs.Plane.{Plane, copied, copied_block}
 use Rattle.plane.specs.Reference.{is_side}
 use Rattle.full_search.specs.declared.Lines.{Lines}
 use Rattle.full_search.specs.declared.Row.{Row}
 use Rattle.full_search.specs.declared.Scored.{Scored}
-use Rattle.full_search.specs.declared.Target.{Target}
 use Rattle.full_search.specs.Block.{block_in}
 use Rattle.full_search.specs.Costs.{zero_discount, at_cost}
 use Rattle.full_search.specs.Places.{right, distance, row_place}
@@ -38,12 +37,6 @@ row_sum side source apart window at j = sum_to side (λ i. abs_diff (get_or sour
 
 unfoldable pub lines_sum : ℕ → List ℕ → ℕ → List ℕ → Lines → ℕ
 lines_sum side source apart window at = sum_to side (row_sum side source apart window at)
-
--- the sum of a source block against the reference's samples from a point on
-abbrev pub sum_from : List ℕ → List ℕ → Target → Point → ℕ
-sum_from source samples t at =
-    let side = t.side in
-    lines_sum side source side (copied_block (plane_of samples t.geometry) at side side) (lines_from 0 side)
 
 -- a part of a patch: `columns` columns from its first sample on are what the block meets at displacement d and to the right
 pub record Shown (side : ℕ) (p : Plane) (corner : Point) (d : MotionVector) (patch : List ℕ) (at : Lines) (columns : ℕ) : Type 0 where

@@ -1,37 +1,35 @@
 -- What the public searches answer, with their refusals, and the sum of two blocks that are listed row by row. Rules C9, C14, C16.
-use Rattle.std.specs.Prelude.{ℕ, ◌&&◌, List, leb, eqb, pos, length}
+use Rattle.std.specs.Prelude.{ℕ, ◌&&◌, List, leb, eqb, pos, length, Result}
 use Rattle.refusal.specs.declared.Refusal.{Refusal}
 use Rattle.refusal.specs.declared.Refusal.TheVariants.{Fcode, Place, Seed, Choice}
-use Rattle.refusal.specs.declared.Reply.{Reply}
-use Rattle.refusal.specs.declared.Reply.TheVariants.{Done, Refused}
+use Rattle.refusal.specs.Reply.{Reply, answer}
+use Rattle.std.specs.Prelude.{Ok}
 use Rattle.refusal.specs.Reply.{unless, and_then, done}
 use Rattle.refusal.specs.Test.{in_range}
 use Rattle.record.specs.declared.MotionVector.{MotionVector}
-use Rattle.record.specs.Zero.{zero_vector}
 use Rattle.plane.specs.Reference.{vector_in_range, reference_reply, length_reply, side_reply}
 use Rattle.prediction.specs.declared.BVopSampleMode.{BVopSampleMode}
 use Rattle.full_search.specs.declared.Scored.{Scored}
 use Rattle.full_search.specs.declared.Target.{Target}
-use Rattle.full_search.specs.declared.Won.{Won}
 use Rattle.full_search.specs.Block.{Block, differences, row_by_row, block_of, copied_sum}
-use Rattle.full_search.specs.Costs.{discounted, zero_discount, scored, at_cost}
+use Rattle.full_search.specs.Costs.{discounted, zero_discount, at_cost}
 use Rattle.full_search.specs.Full.{full_winner, four_winner}
 
 -- ---- refusals
 
 -- 1: a window above 1,023 samples
 unfoldable pub window_reply : ℕ → Reply
-window_reply w = unless (leb w 1023) Fcode Done
+window_reply w = unless (leb w 1023) Fcode (Ok tt)
 
 -- 4, 5; 8: a corner whose parts are not both within 0..4,088
 unfoldable pub placed_reply : ℕ → Target → Reply
 placed_reply bytes t =
     and_then (reference_reply t.geometry bytes)
-    (unless (in_range (pos 0) (pos 4088) t.corner.x && in_range (pos 0) (pos 4088) t.corner.y) Place Done)
+    (unless (in_range (pos 0) (pos 4088) t.corner.x && in_range (pos 0) (pos 4088) t.corner.y) Place (Ok tt))
 
 -- 12: a source that is not `side` times `side` samples; 14: another side
 unfoldable pub square_reply : ℕ → ℕ → Target → Reply
-square_reply side area t = and_then (length_reply area side side) (unless (eqb t.side side) Choice Done)
+square_reply side area t = and_then (length_reply area side side) (unless (eqb t.side side) Choice (Ok tt))
 
 -- 1, 4, 5, 8, 12, 14
 unfoldable pub sixteen_reply : ℕ → ℕ → Target → ℕ → Reply
@@ -39,7 +37,7 @@ sixteen_reply area bytes t w = and_then (window_reply w) (and_then (placed_reply
 
 -- 9: a part of the seed outside -2,048..2,047
 unfoldable pub seed_size_reply : MotionVector → Reply
-seed_size_reply seed = unless (vector_in_range seed) Seed Done
+seed_size_reply seed = unless (vector_in_range seed) Seed (Ok tt)
 
 -- 1, 4, 5, 8, 9, 12, 14
 unfoldable pub eight_reply : ℕ → ℕ → Target → ℕ → MotionVector → Reply
@@ -58,21 +56,13 @@ sixteen_best b fcode w =
 unfoldable pub eight_best : Block → BVopSampleMode → ℕ → MotionVector → Scored
 eight_best b m w seed = at_cost (copied_sum b) (four_winner (copied_sum b) w m seed)
 
--- zero at no cost
-abbrev pub refused_won : Refusal → Won
-refused_won why = record { reply = Refused why; best = scored zero_vector 0 }
-
-abbrev pub won : Reply → Scored → Won
-won Done s = record { reply = Done; best = s }
-won (Refused why) s = refused_won why
-
-unfoldable pub sixteen_won : List ℕ → List ℕ → Target → ℕ → ℕ → Won
+unfoldable pub sixteen_won : List ℕ → List ℕ → Target → ℕ → ℕ → Result Scored Refusal
 sixteen_won source samples t fcode w =
-    won (sixteen_reply (length source) (length samples) t w) (sixteen_best (block_of source samples t) fcode w)
+    answer (sixteen_reply (length source) (length samples) t w) (sixteen_best (block_of source samples t) fcode w)
 
-unfoldable pub eight_won : List ℕ → List ℕ → Target → BVopSampleMode → ℕ → MotionVector → Won
+unfoldable pub eight_won : List ℕ → List ℕ → Target → BVopSampleMode → ℕ → MotionVector → Result Scored Refusal
 eight_won source samples t m w seed =
-    won (eight_reply (length source) (length samples) t w seed) (eight_best (block_of source samples t) m w seed)
+    answer (eight_reply (length source) (length samples) t w seed) (eight_best (block_of source samples t) m w seed)
 
 -- ---- sums
 

@@ -1,9 +1,10 @@
 // The full-sample search: zero, the square of ±8, the lattice beyond it and the dense pass around the lattice's winner; and that of an
 // 8 x 8 block around a seed. Every row is searched on a patch of the reference that is copied once.
-ghost use Rattle.std.specs.Prelude.{◌≡◌, ◌+◌, ◌*◌, ◌<◌, ◌≤◌, min, pos, ◌-ℤ◌, length};
+ghost use Rattle.std.specs.Prelude.{◌≡◌, ◌+◌, ◌*◌, ◌<◌, ◌≤◌, pos, length, Ok};
 ghost use Rattle.std.specs.Int.Signed.{quot_z};
-ghost use Rattle.basis.specs.Parts.{above, below};
 ghost use Rattle.record.specs.Zero.{zero_vector};
+ghost use Rattle.plane.specs.Plane.{plane_of, copied_block};
+ghost use Rattle.plane.specs.Reference.{reference_reply};
 ghost use Rattle.prediction.specs.Luma.{units_per_pel};
 ghost use Rattle.full_search.specs.Block.{block_of};
 ghost use Rattle.full_search.specs.Costs.{zero_discount, at_cost};
@@ -13,7 +14,7 @@ ghost use Rattle.full_search.specs.Won.{sixteen_best, eight_best};
 ghost use Rattle.full_search.specs.Told.{Within, Inside, Ready, moved_to};
 ghost use Rattle.full_search.specs.ToldKept.{kept_of, found, kept_rows, target_cost, target_lattice};
 ghost use Rattle.full_search.specs.ToldKept.{row_below, rows_below, StripReady, SquareReady, WideReady, BandReady, LatticeReady, SeedReady};
-ghost use Rattle.full_search.specs.ToldPatch.{sum_from, MiddleStart, NearKept};
+ghost use Rattle.full_search.specs.ToldPatch.{MiddleStart, NearKept};
 
 use crate::{Lines, Row, Scored, Square, Target, rows, sums};
 use plane::Point;
@@ -33,15 +34,13 @@ fn moved_to(corner: Point, d: MotionVector) -> Point
     }
 }
 
-// The sum of a block against the reference's samples from a point on.
-fn copied_sum(source: &[u8], reference: &[u8], target: Target, at: Point, copy: &mut [u8]) -> u32
-    requires { Ready source.now reference.now target × (length copy.old ≡ target.side * target.side) }
-    ensures { result ≡ sum_from source.now reference.now target at }
+// The reference's samples from a displacement of the block on. A target that a search takes is refused nowhere.
+fn copy_from(reference: &[u8], target: Target, d: MotionVector, w: usize, h: usize, out: &mut [u8])
+    requires { (reference_reply target.geometry (length reference.now) ≡ Ok tt) × Inside target.corner × Within 4096 d × (length out.old ≡ w * h) }
+    ensures { out.new ≡ copied_block (plane_of reference.now target.geometry) (moved_to target.corner d) w h }
 {
-    let geometry = target.geometry;
-    let side = target.side;
-    plane::copy_block(reference, geometry, at, side, side, copy);
-    sums::block(source, side, copy, 0, side, side)
+    let at = moved_to(target.corner, d);
+    let _ = plane::copy_block(reference, target.geometry, at, w, h, out);
 }
 
 // Zero, at its sum less the discount.
@@ -50,14 +49,14 @@ fn zero_start(source: &[u8], reference: &[u8], target: Target, discount: u32) ->
     ensures { result ≡ at_cost (target_cost discount source.now reference.now target) zero_vector }
 {
     let mut copy = [0u8; 256];
-    let corner = target.corner;
-    let size = target.side * target.side;
+    let side = target.side;
     let zero = record::zero_vector();
-    let at = moved_to(corner, zero);
-    let sum = copied_sum(source, reference, target, at, &mut copy[0..size]);
+    let block = &mut copy[..side * side];
+    copy_from(reference, target, zero, side, side, block);
+    let sum = sums::block(source, side, block, 0, side, side);
     Scored {
         vector: zero,
-        cost: rows::less(sum, discount),
+        cost: sum.saturating_sub(discount),
     }
 }
 
@@ -74,13 +73,9 @@ fn strip_search(
     requires { StripReady source.now reference.now target strip.old row discount best }
     ensures { result ≡ kept_of (target_cost discount source.now reference.now target) best (row_of row) }
 {
-    let geometry = target.geometry;
     let side = target.side;
-    let corner = target.corner;
     let width = side + row.step * row.count;
-    let from = row.from;
-    let at = moved_to(corner, from);
-    plane::copy_block(reference, geometry, at, width, side, strip);
+    copy_from(reference, target, row.from, width, side, strip);
     let lines = Lines {
         first: 0,
         stride: width,
@@ -93,9 +88,8 @@ fn square_row(square: Square, j: usize) -> Row
     requires { Within 4000 square.from × (j ≤ 17) }
     ensures { result ≡ square_row square j }
 {
-    let from = square.from;
     Row {
-        from: rows::down(from, j),
+        from: rows::down(square.from, j),
         step: 1,
         count: square.count,
         inner: 0,
@@ -116,13 +110,9 @@ fn square_search(
     requires { SquareReady source.now reference.now target patch.old square discount best }
     ensures { result ≡ kept_of (target_cost discount source.now reference.now target) best (square_of square) }
 {
-    let geometry = target.geometry;
     let side = target.side;
-    let corner = target.corner;
     let width = side + square.count - 1;
-    let from = square.from;
-    let at = moved_to(corner, from);
-    plane::copy_block(reference, geometry, at, width, width, patch);
+    copy_from(reference, target, square.from, width, width, patch);
     let mut b = best;
     for j in 0..square.count {
         let row = square_row(square, j);
@@ -141,10 +131,9 @@ fn middle_start(source: &[u8], patch: &[u8]) -> Scored
     ensures { MiddleStart source.now patch.now result }
 {
     let sum = sums::block(source, 16, patch, 264, 32, 16);
-    let zero = record::zero_vector();
     Scored {
-        vector: zero,
-        cost: rows::less(sum, ZERO_DISCOUNT),
+        vector: record::zero_vector(),
+        cost: sum.saturating_sub(ZERO_DISCOUNT),
     }
 }
 
@@ -153,9 +142,8 @@ fn near_rows(source: &[u8], patch: &[u8]) -> Scored
     requires { (length source.now ≡ 256) × (length patch.now ≡ 1024) }
     ensures { NearKept source.now patch.now result }
 {
-    let from = MotionVector { x: -8, y: -8 };
     let square = Square {
-        from,
+        from: MotionVector { x: -8, y: -8 },
         count: 17,
         outer: 8,
     };
@@ -177,11 +165,8 @@ fn near_search(source: &[u8], reference: &[u8], target: Target) -> Scored
     ensures { result ≡ found (target_cost zero_discount source.now reference.now target) near_rows }
 {
     let mut patch = [0u8; 1024];
-    let geometry = target.geometry;
-    let corner = target.corner;
     let from = MotionVector { x: -8, y: -8 };
-    let at = moved_to(corner, from);
-    plane::copy_block(reference, geometry, at, 32, 32, &mut patch);
+    copy_from(reference, target, from, 32, 32, &mut patch);
     near_rows(source, &patch)
 }
 
@@ -190,7 +175,7 @@ fn back(w: usize, m: usize) -> usize
     requires { m ≤ 4088 }
     ensures { result ≡ back w m }
 {
-    if w < m + 15 { w } else { m + 15 }
+    w.min(m + 15)
 }
 
 // How many places of the lattice it has.
@@ -199,23 +184,8 @@ fn places(w: usize, m: usize, size: usize) -> usize
     ensures { result ≡ places w m size }
 {
     let b = back(w, m);
-    let end = b + size;
-    if end <= m {
-        return 0;
-    }
-    let left = end - m;
-    if b + w + 1 < left {
-        return (b + w + 4) / 4;
-    }
-    (left + 3) / 4
-}
-
-// A part of a corner, as a number of samples.
-fn part(z: i32) -> usize
-    requires { below z ≡ 0 }
-    ensures { result ≡ above z }
-{
-    z as usize
+    let left = (b + size).saturating_sub(m);
+    (left.min(b + w + 1) + 3) / 4
 }
 
 fn lattice_from(w: usize, corner: Point) -> MotionVector
@@ -223,8 +193,8 @@ fn lattice_from(w: usize, corner: Point) -> MotionVector
     ensures { result ≡ lattice_from w corner }
 {
     MotionVector {
-        x: -(back(w, part(corner.x)) as i32),
-        y: -(back(w, part(corner.y)) as i32),
+        x: -(back(w, corner.x as usize) as i32),
+        y: -(back(w, corner.y as usize) as i32),
     }
 }
 
@@ -232,13 +202,9 @@ fn row_below(row: Row, by: usize) -> Row
     requires { Within 4096 row.from × (by ≤ 4096) }
     ensures { result ≡ row_below row by }
 {
-    let from = row.from;
     Row {
-        from: rows::down(from, by),
-        step: row.step,
-        count: row.count,
-        inner: row.inner,
-        outer: row.outer,
+        from: rows::down(row.from, by),
+        ..row
     }
 }
 
@@ -256,12 +222,8 @@ fn band_search(
     requires { BandReady source.now reference.now target band.old first n best }
     ensures { result ≡ kept_of (target_cost zero_discount source.now reference.now target) best (rows_below first n) }
 {
-    let geometry = target.geometry;
-    let corner = target.corner;
     let width = 16 + first.step * first.count;
-    let from = first.from;
-    let at = moved_to(corner, from);
-    plane::copy_block(reference, geometry, at, width, 28, band);
+    copy_from(reference, target, first.from, width, 28, band);
     let mut b = best;
     for i in 0..n {
         let row = row_below(first, 4 * i);
@@ -272,13 +234,6 @@ fn band_search(
         b = rows::sixteen_row(source, band, lines, row, ZERO_DISCOUNT, b);
     }
     b
-}
-
-// How many of the rows that are left go on one band.
-fn band_rows(left: usize) -> usize
-    ensures { result ≡ min 4 left }
-{
-    if left < 4 { left } else { 4 }
 }
 
 // The lattice's rows, band by band.
@@ -296,18 +251,16 @@ fn lattice_bands(
 {
     let size = (16 + first.step * first.count) * 28;
     let mut b = best;
-    let mut j: usize = 0;
-    while j < lines {
-        let n = band_rows(lines - j);
+    for j in (0..lines).step_by(4) {
+        let n = (lines - j).min(4);
         let row = row_below(first, 4 * j);
-        b = band_search(source, reference, target, &mut band[0..size], row, n, b);
-        j += n;
+        b = band_search(source, reference, target, &mut band[..size], row, n, b);
     }
     b
 }
 
-// A small band is cleared sooner than one that every lattice fits.
-fn narrow_lattice(
+// On a band of this size: a small one is cleared sooner than one that every lattice fits.
+fn sized_lattice<const SIZE: usize>(
     source: &[u8],
     reference: &[u8],
     target: Target,
@@ -315,25 +268,10 @@ fn narrow_lattice(
     lines: usize,
     best: Scored,
 ) -> Scored
-    requires { LatticeReady source.now reference.now target first lines 256 best }
+    requires { LatticeReady source.now reference.now target first lines 2048 best × ((16 + first.step * first.count) * 28 ≤ SIZE) × (SIZE ≤ 57792) }
     ensures { result ≡ kept_of (target_cost zero_discount source.now reference.now target) best (rows_below first lines) }
 {
-    let mut band = [0u8; 7616];
-    lattice_bands(source, reference, target, first, lines, &mut band, best)
-}
-
-fn wide_lattice(
-    source: &[u8],
-    reference: &[u8],
-    target: Target,
-    first: Row,
-    lines: usize,
-    best: Scored,
-) -> Scored
-    requires { LatticeReady source.now reference.now target first lines 2048 best }
-    ensures { result ≡ kept_of (target_cost zero_discount source.now reference.now target) best (rows_below first lines) }
-{
-    let mut band = [0u8; 57792];
+    let mut band = [0u8; SIZE];
     lattice_bands(source, reference, target, first, lines, &mut band, best)
 }
 
@@ -342,29 +280,20 @@ fn lattice_search(source: &[u8], reference: &[u8], target: Target, w: usize, bes
     requires { WideReady source.now reference.now target w best }
     ensures { result ≡ kept_of (target_cost zero_discount source.now reference.now target) best (target_lattice w target) }
 {
-    let geometry = target.geometry;
     let corner = target.corner;
-    let from = lattice_from(w, corner);
-    let count = places(w, part(corner.x), geometry.width);
-    let lines = places(w, part(corner.y), geometry.height);
+    let count = places(w, corner.x as usize, target.geometry.width);
+    let lines = places(w, corner.y as usize, target.geometry.height);
     let first = Row {
-        from,
+        from: lattice_from(w, corner),
         step: 4,
         count,
         inner: 9,
         outer: w,
     };
     if count <= 64 {
-        return narrow_lattice(source, reference, target, first, lines, best);
+        return sized_lattice::<7616>(source, reference, target, first, lines, best);
     }
-    wide_lattice(source, reference, target, first, lines, best)
-}
-
-fn lowered(z: i32, by: usize) -> i32
-    requires { (above z ≤ 4096) × (below z ≤ 4096) × (by ≤ 4096) }
-    ensures { result ≡ z -ℤ pos by }
-{
-    z - by as i32
+    sized_lattice::<57792>(source, reference, target, first, lines, best)
 }
 
 // Row j of the dense pass: seven columns around c, rows around the lattice's winner.
@@ -373,8 +302,8 @@ fn dense_row(w: usize, winner: MotionVector, c: MotionVector, j: usize) -> Row
     ensures { result ≡ dense_row_at w winner.y c j }
 {
     let from = MotionVector {
-        x: lowered(c.x, 3),
-        y: lowered(winner.y, 3),
+        x: c.x - 3,
+        y: winner.y - 3,
     };
     Row {
         from: rows::down(from, j),
@@ -394,8 +323,7 @@ fn dense_search(source: &[u8], reference: &[u8], target: Target, w: usize, best:
     let winner = best.vector;
     let mut b = best;
     for j in 0..7 {
-        let c = b.vector;
-        let row = dense_row(w, winner, c, j);
+        let row = dense_row(w, winner, b.vector, j);
         b = strip_search(source, reference, target, &mut strip, row, ZERO_DISCOUNT, b);
     }
     b
@@ -432,8 +360,8 @@ fn seed_from(seed: MotionVector, mode: BVopSampleMode) -> MotionVector
     ensures { result ≡ seed_from mode seed }
 {
     MotionVector {
-        x: lowered(divided(seed.x, mode), 2),
-        y: lowered(divided(seed.y, mode), 2),
+        x: divided(seed.x, mode) - 2,
+        y: divided(seed.y, mode) - 2,
     }
 }
 
@@ -451,9 +379,8 @@ pub fn four_search(
 {
     let mut patch = [0u8; 144];
     let zero = zero_start(source, reference, target, 0);
-    let from = seed_from(seed, mode);
     let square = Square {
-        from,
+        from: seed_from(seed, mode),
         count: 5,
         outer: w,
     };

@@ -1,10 +1,10 @@
 // The full-sample search: of a 16 x 16 block, and of an 8 x 8 block around a seed; and the sum of absolute differences of two blocks.
 #![tactic(auto)]
 
-ghost use Rattle.std.specs.Prelude.{◌≡◌, ◌-◌};
+ghost use Rattle.std.specs.Prelude.{◌≡◌};
 ghost use Rattle.full_search.specs.Costs.{consider};
 ghost use Rattle.full_search.specs.Won.{window_reply, placed_reply, square_reply, sixteen_reply, seed_size_reply, eight_reply, sum_reply};
-ghost use Rattle.full_search.specs.Won.{refused_won, sixteen_won, eight_won, sum_of};
+ghost use Rattle.full_search.specs.Won.{sixteen_won, eight_won, sum_of};
 ghost use Rattle.full_search.specs.Window.{window_sum_reply, window_sum_of};
 
 use plane::{Geometry, Point};
@@ -17,14 +17,14 @@ mod rows;
 mod sums;
 
 // A displacement by whole samples, or a vector in vector units, with what it costs.
-#[derive(Clone, Copy)]
+#[derive(Clone, Copy, Debug, PartialEq, Eq)]
 pub struct Scored {
     pub vector: MotionVector,
     pub cost: u32,
 }
 
 // Where a block is searched for: the reference's geometry, where the block's corner stands in it, and the block's side.
-#[derive(Clone, Copy)]
+#[derive(Clone, Copy, Debug, PartialEq, Eq)]
 pub struct Target {
     pub geometry: Geometry,
     pub corner: Point,
@@ -32,7 +32,7 @@ pub struct Target {
 }
 
 // Places in a row: `count` from `from` on, `step` apart, of which those are listed that go `inner` to `outer` samples in either direction.
-#[derive(Clone, Copy)]
+#[derive(Clone, Copy, Debug, PartialEq, Eq)]
 pub struct Row {
     pub from: MotionVector,
     pub step: usize,
@@ -42,7 +42,7 @@ pub struct Row {
 }
 
 // `count` rows of `count` places from `from` on, of which those are listed that go at most `outer` samples in either direction.
-#[derive(Clone, Copy)]
+#[derive(Clone, Copy, Debug, PartialEq, Eq)]
 pub struct Square {
     pub from: MotionVector,
     pub count: usize,
@@ -50,20 +50,14 @@ pub struct Square {
 }
 
 // Where a block's rows stand in samples: the first sample, and how far rows are apart.
-#[derive(Clone, Copy)]
+#[derive(Clone, Copy, Debug, PartialEq, Eq)]
 pub struct Lines {
     pub first: usize,
     pub stride: usize,
 }
 
-// The winner of a search with its cost; zero at no cost where it is refused.
-#[derive(Clone, Copy)]
-pub struct Won {
-    pub reply: Reply,
-    pub best: Scored,
-}
-
 // Of the best so far and a displacement, the latter only where its cost is strictly smaller.
+#[tactic(auto, unfolding(crate::specs::Costs::consider))]
 pub fn consider(best: Scored, vector: MotionVector, cost: u32) -> Scored
     ensures { result ≡ consider (λ v. cost) best vector }
 {
@@ -74,51 +68,55 @@ pub fn consider(best: Scored, vector: MotionVector, cost: u32) -> Scored
 }
 
 // 1
+#[tactic(auto, unfolding(crate::specs::Won::window_reply))]
 fn window_reply(window: usize) -> Reply
     ensures { result ≡ window_reply window }
 {
-    refusal::unless(window <= 1023, Refusal::Fcode, Reply::Done)
+    refusal::require(window <= 1023, Refusal::Fcode)
 }
 
 // 4, 5, 8
+#[tactic(auto, unfolding(crate::specs::Won::placed_reply))]
 fn placed_reply(bytes: usize, target: Target) -> Reply
     ensures { result ≡ placed_reply bytes target }
 {
     let corner = target.corner;
-    let geometry = target.geometry;
-    let x = refusal::in_range(0, 4088, corner.x);
-    let inside = refusal::both(x, refusal::in_range(0, 4088, corner.y));
-    let place = refusal::unless(inside, Refusal::Place, Reply::Done);
-    refusal::and_then(plane::reference_reply(geometry, bytes), place)
+    plane::reference_reply(target.geometry, bytes)?;
+    refusal::require(
+        (0..=4088).contains(&corner.x) && (0..=4088).contains(&corner.y),
+        Refusal::Place,
+    )
 }
 
 // 12, 14
+#[tactic(auto, unfolding(crate::specs::Won::square_reply))]
 fn square_reply(side: usize, area: usize, target: Target) -> Reply
     ensures { result ≡ square_reply side area target }
 {
-    let choice = refusal::unless(target.side == side, Refusal::Choice, Reply::Done);
-    refusal::and_then(plane::length_reply(area, side, side), choice)
+    plane::length_reply(area, side, side)?;
+    refusal::require(target.side == side, Refusal::Choice)
 }
 
 // 1, 4, 5, 8, 12, 14
+#[tactic(auto, unfolding(crate::specs::Won::sixteen_reply))]
 fn sixteen_reply(area: usize, bytes: usize, target: Target, window: usize) -> Reply
     ensures { result ≡ sixteen_reply area bytes target window }
 {
-    let last = square_reply(16, area, target);
-    let second = refusal::and_then(placed_reply(bytes, target), last);
-    refusal::and_then(window_reply(window), second)
+    window_reply(window)?;
+    placed_reply(bytes, target)?;
+    square_reply(16, area, target)
 }
 
 // 9
+#[tactic(auto, unfolding(crate::specs::Won::seed_size_reply))]
 fn seed_reply(seed: MotionVector) -> Reply
     ensures { result ≡ seed_size_reply seed }
 {
-    let x = refusal::in_range(-2048, 2047, seed.x);
-    let inside = refusal::both(x, refusal::in_range(-2048, 2047, seed.y));
-    refusal::unless(inside, Refusal::Seed, Reply::Done)
+    refusal::require(plane::vector_in_range(seed), Refusal::Seed)
 }
 
 // 1, 4, 5, 8, 9, 12, 14
+#[tactic(auto, unfolding(crate::specs::Won::eight_reply))]
 fn eight_reply(
     area: usize,
     bytes: usize,
@@ -128,49 +126,29 @@ fn eight_reply(
 ) -> Reply
     ensures { result ≡ eight_reply area bytes target window seed }
 {
-    let last = refusal::and_then(seed_reply(seed), square_reply(8, area, target));
-    let second = refusal::and_then(placed_reply(bytes, target), last);
-    refusal::and_then(window_reply(window), second)
-}
-
-// What a refused search answers.
-fn no_winner(why: Refusal) -> Won
-    ensures { result ≡ refused_won why }
-{
-    let zero = record::zero_vector();
-    let best = Scored {
-        vector: zero,
-        cost: 0,
-    };
-    Won {
-        reply: Reply::Refused(why),
-        best,
-    }
+    window_reply(window)?;
+    placed_reply(bytes, target)?;
+    seed_reply(seed)?;
+    square_reply(8, area, target)
 }
 
 // The winner of the full-sample list of one vector, with its cost, of the 256 samples of a 16 x 16 block: 1, 4, 5, 8, 12, 14.
+#[tactic(auto, using(crate::proofs::Taken::sixteen_is), unfolding(crate::specs::Won::sixteen_won))]
 pub fn search_sixteen(
     source: &[u8],
     reference: &[u8],
     target: Target,
     fcode: u32,
     window: usize,
-) -> Won
+) -> Result<Scored, Refusal>
     ensures { result ≡ sixteen_won source.now reference.now target fcode window }
 {
-    match sixteen_reply(source.len(), reference.len(), target, window) {
-        Reply::Refused(why) => no_winner(why),
-        Reply::Done => {
-            let best = full::full_search(source, reference, target, fcode, window);
-            Won {
-                reply: Reply::Done,
-                best,
-            }
-        }
-    }
+    sixteen_reply(source.len(), reference.len(), target, window)?;
+    Ok(full::full_search(source, reference, target, fcode, window))
 }
 
 // The winner of the full-sample list of one of four, with its sum, of the 64 samples of an 8 x 8 block: 1, 4, 5, 8, 9, 12, 14.
+#[tactic(auto, using(crate::proofs::Taken::eight_is), unfolding(crate::specs::Won::eight_won))]
 pub fn search_eight(
     source: &[u8],
     reference: &[u8],
@@ -178,68 +156,57 @@ pub fn search_eight(
     mode: BVopSampleMode,
     window: usize,
     seed: MotionVector,
-) -> Won
+) -> Result<Scored, Refusal>
     ensures { result ≡ eight_won source.now reference.now target mode window seed }
 {
-    match eight_reply(source.len(), reference.len(), target, window, seed) {
-        Reply::Refused(why) => no_winner(why),
-        Reply::Done => {
-            let best = full::four_search(source, reference, target, window, mode, seed);
-            Won {
-                reply: Reply::Done,
-                best,
-            }
-        }
-    }
+    eight_reply(source.len(), reference.len(), target, window, seed)?;
+    Ok(full::four_search(source, reference, target, window, mode, seed))
 }
 
 // 14, 12
+#[tactic(auto, unfolding(crate::specs::Won::sum_reply))]
 fn sum_reply(area: usize, predicted: usize, side: usize) -> Reply
     ensures { result ≡ sum_reply area predicted side }
 {
-    let last = plane::length_reply(predicted, side, side);
-    let second = refusal::and_then(plane::length_reply(area, side, side), last);
-    refusal::and_then(plane::side_reply(side, side), second)
+    plane::side_reply(side, side)?;
+    plane::length_reply(area, side, side)?;
+    plane::length_reply(predicted, side, side)
 }
 
 // The sum of absolute differences of two blocks of side 8 or 16, each row by row; 0 where they are not such blocks.
+#[tactic(auto, unfolding(crate::specs::Won::sum_of))]
 pub fn block_sum(source: &[u8], predicted: &[u8], side: usize) -> u32
     ensures { result ≡ sum_of source.now predicted.now side }
 {
     match sum_reply(source.len(), predicted.len(), side) {
-        Reply::Refused(_) => 0,
-        Reply::Done => sums::block(source, side, predicted, 0, side, side),
+        Err(_) => 0,
+        Ok(()) => sums::block(source, side, predicted, 0, side, side),
     }
 }
 
-// What is left of n, and 0 where it is less.
-fn rest(n: usize, taken: usize) -> usize
-    ensures { result ≡ n - taken }
-{
-    if n < taken { 0 } else { n - taken }
-}
-
 // 14, 12; 5: the window from `at` on is judged as a reference that is so wide and so high
+#[tactic(auto, unfolding(crate::specs::Window::window_sum_reply))]
 fn window_sum_reply(area: usize, bytes: usize, at: usize, stride: usize, side: usize) -> Reply
     ensures { result ≡ window_sum_reply area bytes at stride side }
 {
+    plane::side_reply(side, side)?;
+    plane::length_reply(area, side, side)?;
     let square = Geometry {
         width: side,
         height: side,
         stride,
     };
-    let last = plane::reference_bytes_reply(square, rest(bytes, at));
-    let second = refusal::and_then(plane::length_reply(area, side, side), last);
-    refusal::and_then(plane::side_reply(side, side), second)
+    plane::reference_bytes_reply(square, bytes.saturating_sub(at))
 }
 
 // The sum of absolute differences of a block of side 8 or 16, row by row, and the one that stands at `at` in a window whose rows are
 // `stride` samples apart; 0 where there are no such blocks.
+#[tactic(auto, unfolding(crate::specs::Window::window_sum_of))]
 pub fn window_sum(source: &[u8], window: &[u8], at: usize, stride: usize, side: usize) -> u32
     ensures { result ≡ window_sum_of source.now window.now at stride side }
 {
     match window_sum_reply(source.len(), window.len(), at, stride, side) {
-        Reply::Refused(_) => 0,
-        Reply::Done => sums::block(source, side, window, at, stride, side),
+        Err(_) => 0,
+        Ok(()) => sums::block(source, side, window, at, stride, side),
     }
 }

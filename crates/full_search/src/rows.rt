@@ -1,6 +1,5 @@
 // Searches over rows of displacements, on a patch that was copied from the reference: each keeps the first of least cost.
-ghost use Rattle.std.specs.Prelude.{◌≡◌, T, [], ◌∷◌, ℕ, ◌-◌, ◌*◌, ◌≤◌, pos, ◌+ℤ◌};
-ghost use Rattle.basis.specs.Parts.{above, below};
+ghost use Rattle.std.specs.Prelude.{◌≡◌, T, [], ◌∷◌, ℕ, ◌*◌, ◌≤◌};
 ghost use Rattle.full_search.specs.Places.{right, down, distance, listed, row_of};
 ghost use Rattle.full_search.specs.Told.{Within};
 ghost use Rattle.full_search.specs.ToldPatch.{lines_from, PlaceReady, RowReady, ListedWhole, row_columns, KeptOn};
@@ -8,21 +7,13 @@ ghost use Rattle.full_search.specs.ToldPatch.{lines_from, PlaceReady, RowReady, 
 use crate::{Lines, Row, Scored, sums};
 use record::MotionVector;
 
-// A component, `by` samples on.
-pub fn shifted(z: i32, by: usize) -> i32
-    requires { (above z ≤ 4096) × (below z ≤ 4096) × (by ≤ 4096) }
-    ensures { result ≡ z +ℤ pos by }
-{
-    z + by as i32
-}
-
 pub fn right(d: MotionVector, by: usize) -> MotionVector
     requires { Within 4096 d × (by ≤ 4096) }
     ensures { result ≡ right d by }
 {
     MotionVector {
-        x: shifted(d.x, by),
-        y: d.y,
+        x: d.x + by as i32,
+        ..d
     }
 }
 
@@ -31,27 +22,15 @@ pub fn down(d: MotionVector, by: usize) -> MotionVector
     ensures { result ≡ down d by }
 {
     MotionVector {
-        x: d.x,
-        y: shifted(d.y, by),
+        y: d.y + by as i32,
+        ..d
     }
 }
 
 fn distance(d: MotionVector) -> usize
     ensures { result ≡ distance d }
 {
-    let x = basis::magnitude(d.x) as usize;
-    let y = basis::magnitude(d.y) as usize;
-    if x < y { y } else { x }
-}
-
-// A sum less the discount, not below 0.
-pub fn less(sum: u32, discount: u32) -> u32
-    ensures { result ≡ sum - discount }
-{
-    if sum < discount {
-        return 0;
-    }
-    sum - discount
+    d.x.unsigned_abs().max(d.y.unsigned_abs()) as usize
 }
 
 // One place of a row, whose block stands at `at` in the patch.
@@ -77,7 +56,7 @@ fn place_search(
     }
     let sum = sums::block(source, side, patch, at.first, at.stride, side);
     if far == 0 {
-        return crate::consider(best, d, less(sum, discount));
+        return crate::consider(best, d, sum.saturating_sub(discount));
     }
     crate::consider(best, d, sum)
 }
@@ -98,8 +77,7 @@ pub fn row_search(
     let mut b = best;
     for k in 0..row.count {
         let by = row.step * k;
-        let from = row.from;
-        let d = right(from, by);
+        let d = right(row.from, by);
         let here = Lines {
             first: at.first + by,
             stride: at.stride,
@@ -126,6 +104,7 @@ fn other_place(
 }
 
 // Whether all places of a row are listed and none of them is zero: its ends are in the window, and it passes the inner square.
+#[tactic(auto, using(crate::proofs::Whole::listed_whole))]
 fn is_whole(row: Row) -> bool
     requires { Within 4096 row.from × (row.step * row.count ≤ 4096) }
     ensures { T result → ListedWhole row }
@@ -133,22 +112,9 @@ fn is_whole(row: Row) -> bool
     if row.count == 0 {
         return false;
     }
-    let from = row.from;
-    let last = right(from, row.step * (row.count - 1));
-    let tall = basis::magnitude(from.y) as usize;
-    if tall < row.inner {
-        return false;
-    }
-    if tall == 0 {
-        return false;
-    }
-    if row.outer < distance(from) {
-        return false;
-    }
-    if row.outer < distance(last) {
-        return false;
-    }
-    true
+    let last = right(row.from, row.step * (row.count - 1));
+    let tall = row.from.y.unsigned_abs() as usize;
+    row.inner.max(1) <= tall && distance(row.from).max(distance(last)) <= row.outer
 }
 
 // The places of a row that is listed whole: no place asks whether it is.
@@ -159,8 +125,7 @@ fn whole_row(source: &[u8], patch: &[u8], at: Lines, row: Row, best: Scored) -> 
     let mut b = best;
     for k in 0..row.count {
         let by = row.step * k;
-        let from = row.from;
-        let d = right(from, by);
+        let d = right(row.from, by);
         b = other_place(source, patch, at.first + by, at.stride, d, b);
     }
     b

@@ -9,71 +9,52 @@ ghost use Rattle.full_search.specs.ToldPatch.{line_at, lines_from, LinesFit, Row
 fn difference(a: u8, b: u8) -> u32
     ensures { (result ≡ abs_diff a b) × (result ≤ 255) }
 {
-    let d = a as i32 - b as i32;
-    if d < 0 { (0 - d) as u32 } else { d as u32 }
+    (i32::from(a) - i32::from(b)).unsigned_abs()
 }
 
-fn row_16(a: &[u8], b: &[u8]) -> u32
-    requires { (length a.now ≡ 16) × (length b.now ≡ 16) }
-    ensures { (result ≡ sum_to 16 (λ i. abs_diff (get_or a.now i 0) (get_or b.now i 0))) × (result ≤ 4080) }
+// A row of each of two blocks of this side.
+fn row<const SIDE: usize>(a: &[u8], b: &[u8]) -> u32
+    requires { (SIDE ≤ 16) × (length a.now ≡ SIDE) × (length b.now ≡ SIDE) }
+    ensures { (result ≡ sum_to SIDE (λ i. abs_diff (get_or a.now i 0) (get_or b.now i 0))) × (result ≤ 4080) }
 {
     let mut sum: u32 = 0;
-    for i in 0..16 {
+    for i in 0..SIDE {
         sum += difference(a[i], b[i]);
     }
     sum
 }
 
-fn row_8(a: &[u8], b: &[u8]) -> u32
-    requires { (length a.now ≡ 8) × (length b.now ≡ 8) }
-    ensures { (result ≡ sum_to 8 (λ i. abs_diff (get_or a.now i 0) (get_or b.now i 0))) × (result ≤ 4080) }
-{
-    let mut sum: u32 = 0;
-    for i in 0..8 {
-        sum += difference(a[i], b[i]);
-    }
-    sum
-}
-
-// Row j of 16 samples.
-fn row_at_16(source: &[u8], apart: usize, window: &[u8], at: usize, stride: usize, j: usize) -> u32
-    requires { (j * apart + 16 ≤ length source.now) × (line_at (lines_from at stride) j + 16 ≤ length window.now) }
-    ensures { (result ≡ row_sum 16 source.now apart window.now (lines_from at stride) j) × (result ≤ 4080) }
+// Row j of a block.
+fn row_at<const SIDE: usize>(
+    source: &[u8],
+    apart: usize,
+    window: &[u8],
+    at: usize,
+    stride: usize,
+    j: usize,
+) -> u32
+    requires { (SIDE ≤ 16) × (j * apart + SIDE ≤ length source.now) × (line_at (lines_from at stride) j + SIDE ≤ length window.now) }
+    ensures { (result ≡ row_sum SIDE source.now apart window.now (lines_from at stride) j) × (result ≤ 4080) }
 {
     let s = j * apart;
     let w = at + j * stride;
-    row_16(&source[s..s + 16], &window[w..w + 16])
+    row::<SIDE>(&source[s..s + SIDE], &window[w..w + SIDE])
 }
 
-fn row_at_8(source: &[u8], apart: usize, window: &[u8], at: usize, stride: usize, j: usize) -> u32
-    requires { (j * apart + 8 ≤ length source.now) × (line_at (lines_from at stride) j + 8 ≤ length window.now) }
-    ensures { (result ≡ row_sum 8 source.now apart window.now (lines_from at stride) j) × (result ≤ 4080) }
-{
-    let s = j * apart;
-    let w = at + j * stride;
-    row_8(&source[s..s + 8], &window[w..w + 8])
-}
-
-fn block_16(source: &[u8], apart: usize, window: &[u8], at: usize, stride: usize) -> u32
-    requires { RowsFit 16 apart source.now × LinesFit 16 (lines_from at stride) window.now }
-    ensures { result ≡ lines_sum 16 source.now apart window.now (lines_from at stride) }
+fn block_rows<const SIDE: usize>(
+    source: &[u8],
+    apart: usize,
+    window: &[u8],
+    at: usize,
+    stride: usize,
+) -> u32
+    requires { (is_side SIDE ≡ true) × RowsFit SIDE apart source.now × LinesFit SIDE (lines_from at stride) window.now }
+    ensures { result ≡ lines_sum SIDE source.now apart window.now (lines_from at stride) }
 {
     let mut sum: u32 = 0;
-    for k in 0..8 {
-        let first = row_at_16(source, apart, window, at, stride, 2 * k);
-        sum += first + row_at_16(source, apart, window, at, stride, 2 * k + 1);
-    }
-    sum
-}
-
-fn block_8(source: &[u8], apart: usize, window: &[u8], at: usize, stride: usize) -> u32
-    requires { RowsFit 8 apart source.now × LinesFit 8 (lines_from at stride) window.now }
-    ensures { result ≡ lines_sum 8 source.now apart window.now (lines_from at stride) }
-{
-    let mut sum: u32 = 0;
-    for k in 0..4 {
-        let first = row_at_8(source, apart, window, at, stride, 2 * k);
-        sum += first + row_at_8(source, apart, window, at, stride, 2 * k + 1);
+    for k in 0..SIDE / 2 {
+        let first = row_at::<SIDE>(source, apart, window, at, stride, 2 * k);
+        sum += first + row_at::<SIDE>(source, apart, window, at, stride, 2 * k + 1);
     }
     sum
 }
@@ -92,7 +73,7 @@ pub fn block(
     ensures { result ≡ lines_sum side source.now apart window.now (lines_from at stride) }
 {
     if side == 16 {
-        return block_16(source, apart, window, at, stride);
+        return block_rows::<16>(source, apart, window, at, stride);
     }
-    block_8(source, apart, window, at, stride)
+    block_rows::<8>(source, apart, window, at, stride)
 }

@@ -19,16 +19,9 @@ use Rattle.half_sample.specs.ToldRows.{samples_for, average_at, sample_by, block
 pub samples_for_one : (n : ℕ) (b : Bool) → b ≡ true → samples_for n b ≡ n + 1
 samples_for_one n b e = ap (samples_for n) e
 
-pub samples_for_none : (n : ℕ) (b : Bool) → b ≡ false → samples_for n b ≡ n
-samples_for_none n b e = ap (samples_for n) e
-
 pub samples_for-low : (n : ℕ) (b : Bool) → n ≤ samples_for n b
 samples_for-low n true = omega arith
 samples_for-low n false = omega arith
-
-pub samples_for-high : (n : ℕ) (b : Bool) → samples_for n b ≤ n + 1
-samples_for-high n true = omega arith
-samples_for-high n false = omega arith
 
 -- a sample reads its neighbours only where it lies between them
 pixel_cong : (hx hy : Bool) (a a' b b' c c' d d' rc : ℕ) → a ≡ a' → (hx ≡ true → b ≡ b') → (hy ≡ true → c ≡ c')

@@ -9,35 +9,37 @@ use mathlib.Core.Path.{◌≡◌, refl, sym, ap, ap₂, ◌∙◌}
 use borrow.Author.Tests.{ltb-true, eqb-true, lt-ltb, eq-eqb}
 use lib.Dec.{ltb, eqb}
 use lib.IntN.{ℤ, pos, negsuc, ◌+ℤ◌, ◌-ℤ◌, +ℤ_assoc, +ℤ_idr}
-use lib.ListN.{length, get_or}
+use lib.ListN.{length, get_or, take, drop}
+use lib.Seq.{get_or-take, get_or-drop}
 use lib.Signed.{shr_z}
 use Rattle.basis.specs.Division.{rest_z}
-use Rattle.basis.specs.Lists.{raster}
+use Rattle.basis.specs.Lists.{tabulate, raster}
 use Rattle.basis.specs.Parts.{above, below}
 use Rattle.basis.proofs.Case.{both}
-use Rattle.basis.proofs.Lists.{length-tabulate, get_or-tabulate, get_or-raster}
+use Rattle.basis.proofs.Lists.{tabulate_cong, length-tabulate, get_or-tabulate, get_or-raster}
 use Rattle.basis.proofs.Parts.{sides, ext, above-add, below-add, above-shr, below-shr}
 use Rattle.refusal.specs.declared.Refusal.TheVariants.{Length}
-use Rattle.refusal.specs.declared.Reply.TheVariants.{Done}
+use Rattle.std.specs.Prelude.{Ok}
 use Rattle.refusal.proofs.Replies.{unless-done, passed}
 use Rattle.refusal.proofs.Tests.{and_left, and_right}
 use Rattle.record.specs.declared.MotionVector.{MotionVector}
 use Rattle.plane.specs.declared.Point.{Point}
 use Rattle.plane.specs.Plane.{Plane, sample_at, copied, copied_block}
 use Rattle.half_sample.specs.declared.HalfPel.{HalfPel}
-use Rattle.half_sample.specs.Average.{pixel_of}
+use Rattle.half_sample.specs.Average.{average2_of, average4_of, pixel_of}
 use Rattle.half_sample.specs.Block.{sample_from, half_sample}
 use Rattle.half_sample.specs.Split.{split_half}
+use Rattle.half_sample.specs.ToldRows.{below_of, between_four}
 use Rattle.half_sample.specs.Ring.{ring_corner, off_whole, read_from, ring_at, ring_grid, ring_reply}
 
 module _ (bytes stride right below between : ℕ) where
   abbrev same : Bool
   same = eqb below right && eqb between right
 
-  pub ring_is : ring_reply bytes stride right below between ≡ Done → (right + stride < bytes) × (below ≡ right) × (between ≡ right)
+  pub ring_is : ring_reply bytes stride right below between ≡ Ok tt → (right + stride < bytes) × (below ≡ right) × (between ≡ right)
   unfolding ring_reply
   ring_is e =
-      let k = unless-done (ltb right (bytes - stride) && same) Length Done e in
+      let k = unless-done (ltb right (bytes - stride) && same) Length (Ok tt) e in
       let h = ltb-true right (bytes - stride) (and_left (ltb right (bytes - stride)) same k) in
       let s = and_right (ltb right (bytes - stride)) same k in (
         omega (arith, h),
@@ -45,11 +47,41 @@ module _ (bytes stride right below between : ℕ) where
         eqb-true between right (and_right (eqb below right) (eqb between right) s),
       )
 
-  pub ring-done : right + stride < bytes → below ≡ right → between ≡ right → ring_reply bytes stride right below between ≡ Done
+  pub ring-done : right + stride < bytes → below ≡ right → between ≡ right → ring_reply bytes stride right below between ≡ Ok tt
   unfolding ring_reply
   ring-done h e f =
       passed (ltb right (bytes - stride) && same) Length
       (both (lt-ltb right (bytes - stride) (omega arith)) (both (eq-eqb below right e) (eq-eqb between right f))) refl
+
+-- ---- a grid whose lower samples are read from the line's second row on
+
+module _ (patch : List ℕ) (stride rounding m n : ℕ) (k : m ≡ n) (h : n + stride < length patch) where
+  abbrev rc : ℕ
+  rc = rounding % 2
+
+  abbrev pub second : List ℕ
+  second = take (length patch - stride) (drop stride patch)
+
+  one_down : (i j : ℕ) → i + stride ≡ j → i ≤ n → get_or second i 0 ≡ get_or patch j 0
+  one_down i j e l =
+      let place : stride + i ≡ j = omega arith in
+      get_or-take (length patch - stride) (drop stride patch) i 0 (omega arith) ∙ get_or-drop stride patch i 0 ∙ ap (λ (a : ℕ). get_or patch a 0) place
+
+  pub below_grid : tabulate m (below_of patch second rc) ≡ ring_grid patch stride false true rounding n
+  unfolding ring_grid
+  below_grid =
+      tabulate_cong m (below_of patch second rc) (ring_at patch stride false true rc)
+      (λ i p. ap (λ (a : ℕ). average2_of (get_or patch i 0) a rc) (one_down i (i + stride) refl (omega arith)))
+      ∙ ap (λ (a : ℕ). tabulate a (ring_at patch stride false true rc)) k
+
+  pub between_grid : tabulate m (between_four patch second rc) ≡ ring_grid patch stride true true rounding n
+  unfolding ring_grid
+  between_grid =
+      tabulate_cong m (between_four patch second rc) (ring_at patch stride true true rc)
+      (λ i p.
+      ap₂ (λ (a b : ℕ). average4_of (get_or patch i 0) (get_or patch (i + 1) 0) a b rc) (one_down i (i + stride) refl (omega arith))
+      (one_down (i + 1) (i + stride + 1) (omega arith) (omega arith)))
+      ∙ ap (λ (a : ℕ). tabulate a (ring_at patch stride true true rc)) k
 
 -- ---- a grid of a patch that was listed row by row
 

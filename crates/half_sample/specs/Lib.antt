@@ -3,4 +3,3 @@ pub mod Average
 pub mod Block
 pub mod Ring
 pub mod ToldRows
-pub mod ToldStart

@@ -3,8 +3,8 @@
 use Rattle.std.specs.Prelude.{ℕ, zero, suc, ◌+◌, ◌-◌, ◌%◌, Bool, not, ◌&&◌, List, ltb, eqb, pos, ◌+ℤ◌, ◌-ℤ◌, get_or}
 use Rattle.basis.specs.Lists.{tabulate}
 use Rattle.refusal.specs.declared.Refusal.TheVariants.{Length}
-use Rattle.refusal.specs.declared.Reply.{Reply}
-use Rattle.refusal.specs.declared.Reply.TheVariants.{Done}
+use Rattle.refusal.specs.Reply.{Reply}
+use Rattle.std.specs.Prelude.{Ok}
 use Rattle.refusal.specs.Reply.{unless}
 use Rattle.record.specs.declared.MotionVector.{MotionVector}
 use Rattle.plane.specs.declared.Point.{Point}
@@ -22,7 +22,7 @@ ring_grid patch stride hx hy rounding n = tabulate n (ring_at patch stride hx hy
 
 -- 12: areas that are not equally long, or a patch that has not a row and a sample more
 unfoldable pub ring_reply : ℕ → ℕ → ℕ → ℕ → ℕ → Reply
-ring_reply bytes stride right below between = unless (ltb right (bytes - stride) && (eqb below right && eqb between right)) Length Done
+ring_reply bytes stride right below between = unless (ltb right (bytes - stride) && (eqb below right && eqb between right)) Length (Ok tt)
 
 -- ---- around a whole place
 

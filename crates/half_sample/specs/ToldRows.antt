@@ -1,7 +1,7 @@
 -- Told, not believed: averages between two rows of samples, how many samples a row takes, and what the functions of rows need.
 use Rattle.std.specs.Prelude.{ℕ, ◌+◌, ◌*◌, ◌<◌, ◌≤◌, Bool, true, false, ◌||◌, List, ◌≡◌, ℤ, length, get_or}
 use Rattle.basis.specs.Lists.{raster}
-use Rattle.refusal.specs.declared.Reply.TheVariants.{Done}
+use Rattle.std.specs.Prelude.{Ok}
 use Rattle.plane.specs.declared.Geometry.{Geometry}
 use Rattle.plane.specs.declared.Point.{Point}
 use Rattle.plane.specs.declared.Site.{Site}
@@ -72,7 +72,7 @@ pub record PlaneRowsNeeds (p : Plane) (column w h : ℕ) (halves : Halves) (area
 
 -- a block of a reference that is usable
 pub record BlockNeeds (g : Geometry) (bytes : ℕ) (site : Site) (halves : Halves) (area : ℕ) : Type 0 where
-  pub reference : reference_reply g bytes ≡ Done
+  pub reference : reference_reply g bytes ≡ Ok tt
   pub some_columns : 0 < site.width
   pub some_rows : 0 < site.height
   pub narrow : site.width ≤ 16

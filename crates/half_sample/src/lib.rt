@@ -1,17 +1,14 @@
 // Prediction of a block from a reference plane by a vector in half samples (7.6.2.1).
 #![tactic(auto)]
 
-ghost use Rattle.std.specs.Prelude.{◌≡◌, true, false, ◌%◌, ◌<◌, pos, negsuc, length};
-ghost use Rattle.refusal.specs.declared.Reply.TheVariants.{Done};
+ghost use Rattle.std.specs.Prelude.{◌≡◌, true, false, ◌%◌, ◌<◌, length};
 ghost use Rattle.refusal.specs.Reply.{done};
-ghost use Rattle.refusal.specs.Test.{in_range};
 ghost use Rattle.plane.specs.Plane.{plane_of};
 ghost use Rattle.plane.specs.Reference.{block_reply};
 ghost use Rattle.half_sample.specs.Split.{split_half};
 ghost use Rattle.half_sample.specs.Average.{average2_of, average4_of, pixel_of};
 ghost use Rattle.half_sample.specs.Block.{half_block};
 ghost use Rattle.half_sample.specs.Ring.{ring_reply, ring_grid};
-ghost use Rattle.half_sample.specs.ToldStart.{StartsAt};
 
 use plane::{Geometry, Point, Site};
 use record::MotionVector;
@@ -21,7 +18,7 @@ mod ring;
 mod rows;
 
 // A vector component: whole samples, and whether half a sample is left.
-#[derive(Clone, Copy)]
+#[derive(Clone, Copy, Debug, PartialEq, Eq)]
 pub struct HalfPel {
     pub whole: i32,
     pub half: bool,
@@ -41,60 +38,39 @@ fn average2(a: u8, b: u8, rc: u16) -> u8
     requires { rc < 2 }
     ensures { result ≡ average2_of a b rc }
 {
-    ((a as u16 + b as u16 + 1 - rc) / 2) as u8
+    ((u16::from(a) + u16::from(b) + 1 - rc) / 2) as u8
 }
 
 fn average4(a: u8, b: u8, c: u8, d: u8, rc: u16) -> u8
     requires { rc < 2 }
     ensures { result ≡ average4_of a b c d rc }
 {
-    ((a as u16 + b as u16 + c as u16 + d as u16 + 2 - rc) / 4) as u8
+    ((u16::from(a) + u16::from(b) + u16::from(c) + u16::from(d) + 2 - rc) / 4) as u8
 }
 
 // From a half a sample to the right, half a sample down: b stands to the right of a, c and d below.
 pub fn interpolate_pixel(a: u8, b: u8, c: u8, d: u8, half_x: bool, half_y: bool, rounding: u8) -> u8
     ensures { result ≡ pixel_of a b c d half_x half_y (rounding % 2) }
 {
-    let rc = (rounding % 2) as u16;
-    if half_x {
-        if half_y {
-            return average4(a, b, c, d, rc);
-        }
-        return average2(a, b, rc);
+    let rc = u16::from(rounding % 2);
+    match (half_x, half_y) {
+        (false, false) => a,
+        (true, false) => average2(a, b, rc),
+        (false, true) => average2(a, c, rc),
+        (true, true) => average4(a, b, c, d, rc),
     }
-    if half_y {
-        return average2(a, c, rc);
-    }
-    a
 }
 
 // Half a sample to the right, half a sample down, and the rounding control that averages are lowered by. Its size, four bytes, lets it
 // go from function to function in a register.
-#[derive(Clone, Copy)]
+#[derive(Clone, Copy, Debug, PartialEq, Eq)]
 struct Halves {
     x: bool,
     y: bool,
     rc: u16,
 }
 
-// Where a block is read in one direction: its first sample, and whether half a sample on.
-#[derive(Clone, Copy)]
-struct AxisStart {
-    at: i32,
-    half: bool,
-}
-
-fn start_of(corner: i32, mv: i32) -> AxisStart
-    requires { (in_range (negsuc 4095) (pos 4096) corner ≡ true) × (in_range (negsuc 2047) (pos 2047) mv ≡ true) }
-    ensures { StartsAt corner mv result }
-{
-    let split = split_half_pel(mv);
-    AxisStart {
-        at: corner + split.whole,
-        half: split.half,
-    }
-}
-
+#[tactic(auto, using(plane::proofs::Ready::block_ready), unfolding(crate::specs::Block::half_block, crate::specs::Block::half_sample))]
 fn interpolate_ready(
     samples: &[u8],
     geometry: Geometry,
@@ -103,20 +79,20 @@ fn interpolate_ready(
     rounding: u8,
     out: &mut [u8],
 )
-    requires { block_reply geometry (length samples.now) vector site (length out.old) ≡ Done }
+    requires { block_reply geometry (length samples.now) vector site (length out.old) ≡ Ok tt }
     ensures { out.new ≡ half_block (plane_of samples.now geometry) site vector rounding }
 {
     let corner = site.corner;
-    let across = start_of(corner.x, vector.x);
-    let along = start_of(corner.y, vector.y);
+    let across = split_half_pel(vector.x);
+    let along = split_half_pel(vector.y);
     let at = Point {
-        x: across.at,
-        y: along.at,
+        x: corner.x + across.whole,
+        y: corner.y + along.whole,
     };
     let halves = Halves {
         x: across.half,
         y: along.half,
-        rc: (rounding % 2) as u16,
+        rc: u16::from(rounding % 2),
     };
     rows::interpolate_from(samples, geometry, at, site, halves, out);
 }
@@ -134,7 +110,7 @@ pub fn interpolate_block_into(
     ensures out_after { out.new ≡ done result (half_block (plane_of samples.now geometry) site vector rounding) out.old }
 {
     let corner = site.corner;
-    let reply = plane::block_numbers_reply(
+    plane::block_numbers_reply(
         geometry.width,
         geometry.height,
         geometry.stride,
@@ -145,14 +121,9 @@ pub fn interpolate_block_into(
         site.width,
         site.height,
         out.len(),
-    );
-    match reply {
-        Reply::Refused(why) => Reply::Refused(why),
-        Reply::Done => {
-            interpolate_ready(samples, geometry, site, vector, rounding, out);
-            Reply::Done
-        }
-    }
+    )?;
+    interpolate_ready(samples, geometry, site, vector, rounding, out);
+    Ok(())
 }
 
 // The samples half a sample from those of a patch whose rows are `stride` samples long: to the right, below, and both. Its rows are taken
@@ -173,12 +144,7 @@ pub fn interpolate_ring_into(
     ensures between_after { between.new
         ≡ done result (ring_grid patch.now stride true true rounding (length right.old)) between.old }
 {
-    let reply = ring::ring_reply(patch.len(), stride, right.len(), below.len(), between.len());
-    match reply {
-        Reply::Refused(why) => Reply::Refused(why),
-        Reply::Done => {
-            ring::ring_ready(patch, stride, rounding, right, below, between);
-            Reply::Done
-        }
-    }
+    ring::ring_reply(patch.len(), stride, right.len(), below.len(), between.len())?;
+    ring::ring_ready(patch, stride, rounding, right, below, between);
+    Ok(())
 }

@@ -1,7 +1,7 @@
 // A block half a sample on, row by row. Rows that lie inside the reference are read where they stand; a block that crosses its left
 // or right edge is copied first, and the copy is then a plane of its own. A row's loop takes its rounding control as a number of its
 // own, and its two rows as parts, so that it reads nothing else: its turns are then done many at a time.
-ghost use Rattle.std.specs.Prelude.{◌≡◌, true, ◌+◌, ◌*◌, ◌<◌, ◌≤◌, pos, length};
+ghost use Rattle.std.specs.Prelude.{◌≡◌, true, ◌*◌, ◌<◌, ◌≤◌, pos, length};
 ghost use Rattle.basis.specs.Lists.{tabulate, raster};
 ghost use Rattle.plane.specs.Plane.{geometry_of, plane_of};
 ghost use Rattle.half_sample.specs.ToldRows.{samples_for, average_at, sample_by, block_by, some_half, right_of, below_of, between_four};
@@ -11,8 +11,9 @@ use crate::Halves;
 use plane::{Geometry, Point, Site};
 
 // Half a sample to the right.
-fn row_b(top: &[u8], rc: u16, out: &mut [u8])
-    requires { (length top.now ≡ length out.old + 1) × (rc < 2) }
+#[tactic(auto, using(basis::proofs::Lists::filled_none, basis::proofs::Lists::filled_set))]
+pub fn row_b(top: &[u8], rc: u16, out: &mut [u8])
+    requires { (length out.old < length top.now) × (rc < 2) }
     ensures { out.new ≡ tabulate (length out.old) (right_of top.now rc) }
 {
     for i in 0..out.len() {
@@ -21,8 +22,9 @@ fn row_b(top: &[u8], rc: u16, out: &mut [u8])
 }
 
 // Half a sample down.
-fn row_c(top: &[u8], low: &[u8], rc: u16, out: &mut [u8])
-    requires { (length top.now ≡ length out.old) × (length low.now ≡ length out.old) × (rc < 2) }
+#[tactic(auto, using(basis::proofs::Lists::filled_none, basis::proofs::Lists::filled_set))]
+pub fn row_c(top: &[u8], low: &[u8], rc: u16, out: &mut [u8])
+    requires { (length out.old ≤ length top.now) × (length out.old ≤ length low.now) × (rc < 2) }
     ensures { out.new ≡ tabulate (length out.old) (below_of top.now low.now rc) }
 {
     for i in 0..out.len() {
@@ -31,8 +33,9 @@ fn row_c(top: &[u8], low: &[u8], rc: u16, out: &mut [u8])
 }
 
 // Half a sample to the right and down.
-fn row_d(top: &[u8], low: &[u8], rc: u16, out: &mut [u8])
-    requires { (length top.now ≡ length out.old + 1) × (length low.now ≡ length out.old + 1) × (rc < 2) }
+#[tactic(auto, using(basis::proofs::Lists::filled_none, basis::proofs::Lists::filled_set))]
+pub fn row_d(top: &[u8], low: &[u8], rc: u16, out: &mut [u8])
+    requires { (length out.old < length top.now) × (length out.old < length low.now) × (rc < 2) }
     ensures { out.new ≡ tabulate (length out.old) (between_four top.now low.now rc) }
 {
     for i in 0..out.len() {
@@ -46,15 +49,11 @@ fn average_row(top: &[u8], low: &[u8], halves: Halves, out: &mut [u8])
     ensures { out.new ≡ tabulate (length out.old) (average_at top.now low.now halves) }
 {
     let rc = halves.rc % 2;
-    if halves.x {
-        if halves.y {
-            row_d(top, low, rc, out);
-            return;
-        }
-        row_b(top, rc, out);
-        return;
+    match (halves.x, halves.y) {
+        (true, true) => row_d(top, low, rc, out),
+        (true, false) => row_b(top, rc, out),
+        (false, _) => row_c(top, low, rc, out),
     }
-    row_c(top, low, rc, out);
 }
 
 // How many samples a row of n takes.
@@ -134,7 +133,7 @@ fn copied_rows(
 {
     let columns = samples_for(site.width, halves.x);
     let lines = samples_for(site.height, halves.y);
-    plane::copy_block(samples, geometry, at, columns, lines, buffer);
+    let _ = plane::copy_block(samples, geometry, at, columns, lines, buffer);
     plane_rows(
         buffer,
         columns,
@@ -174,6 +173,7 @@ fn crossing(
 }
 
 // Half a sample on in one direction or in both.
+#[tactic(auto, using(plane::proofs::Ready::usable))]
 fn averaged(
     samples: &[u8],
     geometry: Geometry,
@@ -199,13 +199,14 @@ fn averaged(
             halves,
             out,
         );
-        return;
+    } else {
+        crossing(samples, geometry, at, site, halves, out);
     }
-    crossing(samples, geometry, at, site, halves, out);
 }
 
 // The block as wide and as high as a site that starts at a point, or half a sample on from there. What is called from one place only
 // is compiled into its caller, so that sites and sizes stay in registers: `averaged` and `crossing` are called once.
+#[tactic(auto, using(plane::proofs::Ready::copy_done))]
 pub fn interpolate_from(
     samples: &[u8],
     geometry: Geometry,
@@ -217,9 +218,9 @@ pub fn interpolate_from(
     requires { BlockNeeds geometry (length samples.now) site halves (length out.old) }
     ensures { out.new ≡ block_by (plane_of samples.now geometry) at site halves }
 {
-    if refusal::either(halves.x, halves.y) {
+    if halves.x || halves.y {
         averaged(samples, geometry, at, site, halves, out);
-        return;
+    } else {
+        let _ = plane::copy_block(samples, geometry, at, site.width, site.height, out);
     }
-    plane::copy_block(samples, geometry, at, site.width, site.height, out);
 }

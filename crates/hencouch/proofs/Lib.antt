@@ -1,3 +1,2 @@
-pub mod Fetching
 pub mod Records
 pub mod Runs

@@ -1,7 +1,7 @@
 // The chroma vector of a macroblock, in the mode of a number.
 ghost use Rattle.std.specs.Prelude.{◌≡◌};
 ghost use Rattle.refusal.specs.Number.{code_of};
-ghost use Rattle.refusal.specs.Reply.{done};
+ghost use Rattle.refusal.specs.Reply.{written};
 ghost use Rattle.prediction.specs.declared.PvopMbMotion.TheVariants.{OneMv};
 ghost use Rattle.areas.specs.Numbers.{vector_of, four_motion};
 ghost use Rattle.areas.specs.Search.{vector_area};
@@ -12,7 +12,7 @@ use prediction::PvopMbMotion;
 // Of one vector: 2, 8.
 pub fn hencouch_chroma_vector(mode: u32, mv_x: i32, mv_y: i32, vector: &mut [i32; 2]) -> u8
     ensures { let told = chroma_in mode (OneMv (vector_of mv_x mv_y)) in
-        (result ≡ code_of told.reply) × (vector.new ≡ done told.reply (vector_area told.vector) vector.old) }
+        (result ≡ code_of told) × (vector.new ≡ written told vector_area vector.old) }
 {
     let motion = PvopMbMotion::OneMv(areas::numbers::vector_of(mv_x, mv_y));
     let told = predicting::chroma_vector(mode, motion);
@@ -22,7 +22,7 @@ pub fn hencouch_chroma_vector(mode: u32, mv_x: i32, mv_y: i32, vector: &mut [i32
 // Of four vectors, one for each 8 x 8 block: 2, 8.
 pub fn hencouch_chroma_vector_4mv(mode: u32, vectors: &[i32; 8], vector: &mut [i32; 2]) -> u8
     ensures { let told = chroma_in mode (four_motion vectors.now) in
-        (result ≡ code_of told.reply) × (vector.new ≡ done told.reply (vector_area told.vector) vector.old) }
+        (result ≡ code_of told) × (vector.new ≡ written told vector_area vector.old) }
 {
     let motion = areas::numbers::four_motion(*vectors);
     let told = predicting::chroma_vector(mode, motion);

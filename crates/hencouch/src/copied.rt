@@ -6,23 +6,8 @@ ghost use Rattle.plane.specs.Plane.{plane_of, sample_at, copied_block, geometry_
 ghost use Rattle.plane.specs.Reference.{reference_reply, copy_reply};
 ghost use Rattle.plane.specs.Source.{source_luma_block_reply, source_luma, source_chroma_block_reply, source_chroma};
 ghost use Rattle.areas.specs.Numbers.{point_of, size_of, macroblock_at};
-ghost use Rattle.hencouch.specs.ToldFetched.{fetched_code, fetched_in};
 
-use plane::{Fetched, Geometry, MacroblockPlace, SourceSize};
-
-// The sample, where there is one, and the reply's number.
-fn write_sample(told: Fetched, sample: &mut u8) -> u8
-    ensures value { result ≡ fetched_code told }
-    ensures sample_after { sample.new ≡ fetched_in told sample.old }
-{
-    match told {
-        Fetched::Refused(why) => refusal::number(why),
-        Fetched::Sample(v) => {
-            *sample = v;
-            0
-        }
-    }
-}
+use plane::{Geometry, MacroblockPlace, SourceSize};
 
 // The sample at column x and row y, both clamped: 4, 5.
 pub fn hencouch_fetch_clamped(
@@ -45,7 +30,7 @@ pub fn hencouch_fetch_clamped(
         stride,
     };
     let told = plane::fetch_clamped(samples, geometry, x, y);
-    write_sample(told, sample)
+    areas::records::write(told, sample)
 }
 
 // The block of clamped samples from column x and row y on: 4, 5, 12.

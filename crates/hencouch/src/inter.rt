@@ -1,7 +1,7 @@
 // The parts of an inter macroblock: activity, residual, levels and events, patterns.
 ghost use Rattle.std.specs.Prelude.{◌≡◌, length};
 ghost use Rattle.refusal.specs.Number.{code_of};
-ghost use Rattle.refusal.specs.Reply.{done};
+ghost use Rattle.refusal.specs.Reply.{done, value_or};
 ghost use Rattle.reader.specs.Handed.{areas};
 ghost use Rattle.plane.specs.Samples.{samples};
 ghost use Rattle.coding.specs.Residual.{source_of, residual_of};
@@ -23,12 +23,12 @@ pub fn hencouch_intra_activity(
     activity: &mut u32,
 ) -> u8
     ensures { let told = intra_activity source.now (size_of width height) (macroblock_at column row) in
-        (result ≡ code_of told.reply) × (activity.new ≡ done told.reply told.sum activity.old) }
+        (result ≡ code_of told) × (activity.new ≡ value_or told activity.old) }
 {
     let size = SourceSize { width, height };
     let place = MacroblockPlace { column, row };
     let told = macroblock::intra_activity(source, size, place);
-    areas::records::write_activity(told, activity)
+    areas::records::write(told, activity)
 }
 
 // Source less prediction, in six blocks of 64: 6, 7, 8, 12.
@@ -84,7 +84,7 @@ pub fn hencouch_quantise_inter_block(
     let told = coding::quantise_inter_block(
         residual, quantiser, first, weights, scan, lasts, runs, levels,
     );
-    areas::records::write_count(told, count)
+    areas::records::write(told, count)
 }
 
 // The events of all six blocks, each in its own area: 10, 11, 12, 13, 14.
@@ -112,7 +112,7 @@ pub fn hencouch_quantise_inter_residual(
     let told = coding::quantise_inter_residual(
         residual, quantiser, first, weights, scan, lasts, runs, levels,
     );
-    areas::records::write_counts(told, counts)
+    areas::records::write(told, counts)
 }
 
 // Which of six blocks have an event: the luma pattern, then the chroma pattern. Never refused.

@@ -71,7 +71,7 @@ pub fn hencouch_levels_to_events(
         × (count.new ≡ done reply (length (events_of given)) count.old) }
 {
     let told = scan::levels_to_events(levels, lasts, runs, out_levels);
-    areas::records::write_count(told, count)
+    areas::records::write(told, count)
 }
 
 // The scan number of an inter block's scan: any number but 0 is yes. Never refused.

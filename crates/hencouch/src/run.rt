@@ -2,7 +2,7 @@
 // their one-vector sums.
 ghost use Rattle.std.specs.Prelude.{◌≡◌};
 ghost use Rattle.refusal.specs.Number.{code_of};
-ghost use Rattle.refusal.specs.Reply.{done};
+ghost use Rattle.refusal.specs.Reply.{done, written};
 ghost use Rattle.reader.specs.Handed.{areas};
 ghost use Rattle.macroblock.specs.Request.{request};
 ghost use Rattle.macroblock.specs.Predicted.{predicted_request};
@@ -17,15 +17,10 @@ use plane::{Geometry, SourceSize};
 // A run of which nothing is coded yet: 6.
 pub fn hencouch_open(width: usize, height: usize, run: &mut [u64; 5]) -> u8
     ensures { let opened = open_of (size_of width height) in
-        (result ≡ code_of opened.reply)
-        × (run.new ≡ done opened.reply (run_numbers opened.run) run.old) }
+        (result ≡ code_of opened) × (run.new ≡ written opened run_numbers run.old) }
 {
     let size = SourceSize { width, height };
-    let opened = picture::open(size);
-    let reply = opened.reply;
-    let given = opened.run;
-    areas::runs::write_run(reply, given, run);
-    refusal::code(reply)
+    areas::runs::write_run(picture::open(size), run)
 }
 
 // Where the next macroblock stands, column and row, for any five numbers. Never refused.
@@ -86,10 +81,10 @@ pub fn hencouch_step(
         patterns.old counts.old in
         let new = record_areas vector.new sum.new four_vectors.new four_sums.new
         patterns.new counts.new in
-        (result ≡ code_of coded.reply)
-        × (run.new ≡ done coded.reply (run_numbers told.run) run.old)
+        (result ≡ code_of coded)
+        × (run.new ≡ done coded (run_numbers told.run) run.old)
         × (areas lasts.new runs.new levels.new ≡ told.answer.areas)
-        × (new ≡ done coded.reply (record_areas_of coded.«record») old) }
+        × (new ≡ written coded record_areas_of old) }
 {
     let settings = areas::numbers::settings_of(
         fcode,
@@ -106,29 +101,19 @@ pub fn hencouch_step(
         stride,
     };
     let size = SourceSize { width, height };
-    let before = areas::runs::run_of(*run);
+    let mut next = areas::runs::run_of(*run);
     let told = picture::step(
-        before, settings, reference, geometry, y, cb, cr, size, weights, pred_y, pred_cb, pred_cr,
-        lasts, runs, levels,
+        &mut next, settings, reference, geometry, y, cb, cr, size, weights, pred_y, pred_cb,
+        pred_cr, lasts, runs, levels,
     );
-    let reply = told.reply;
-    let next = told.run;
-    let given = told.record;
-    areas::runs::write_run(reply, next, run);
-    areas::records::write_record(
-        reply,
-        given,
-        vector,
-        sum,
-        four_vectors,
-        four_sums,
-        patterns,
-        counts,
-    );
-    refusal::code(reply)
+    if told.is_ok() {
+        *run = areas::runs::run_numbers(next);
+    }
+    areas::records::write_record(told, vector, sum, four_vectors, four_sums, patterns, counts)
 }
 
-// Searches for the run's next macroblock, predicts it by the vectors found and codes it: 21, 22, then 1, 2, 3, 4, 5, 6, 7, 10, 11, 12, 14, 31. Any first_method but 0 is the first method.
+// Searches for the run's next macroblock, predicts it by the vectors found and codes it: 21, 22, then 1, 2, 3, 4, 5, 6, 7, 10, 11, 12,
+// 14, 31. Any first_method but 0 is the first method.
 pub fn hencouch_step_predicted(
     run: &mut [u64; 5],
     fcode: u32,
@@ -174,10 +159,10 @@ pub fn hencouch_step_predicted(
         patterns.old counts.old in
         let new = record_areas vector.new sum.new four_vectors.new four_sums.new
         patterns.new counts.new in
-        (result ≡ code_of coded.reply)
-        × (run.new ≡ done coded.reply (run_numbers told.run) run.old)
+        (result ≡ code_of coded)
+        × (run.new ≡ done coded (run_numbers told.run) run.old)
         × (areas lasts.new runs.new levels.new ≡ told.answer.areas)
-        × (new ≡ done coded.reply (record_areas_of coded.«record») old) }
+        × (new ≡ written coded record_areas_of old) }
 {
     let settings = areas::numbers::settings_of(
         fcode,
@@ -190,33 +175,21 @@ pub fn hencouch_step_predicted(
     );
     let geometry = areas::numbers::reference_geometry(ref_width, ref_height, stride, chroma_stride);
     let size = SourceSize { width, height };
-    let before = areas::runs::run_of(*run);
+    let mut next = areas::runs::run_of(*run);
     let told = picture::step_predicted(
-        before, settings, rounding, ref_y, ref_cb, ref_cr, geometry, y, cb, cr, size, weights,
+        &mut next, settings, rounding, ref_y, ref_cb, ref_cr, geometry, y, cb, cr, size, weights,
         lasts, runs, levels,
     );
-    let reply = told.reply;
-    let next = told.run;
-    let given = told.record;
-    areas::runs::write_run(reply, next, run);
-    areas::records::write_record(
-        reply,
-        given,
-        vector,
-        sum,
-        four_vectors,
-        four_sums,
-        patterns,
-        counts,
-    );
-    refusal::code(reply)
+    if told.is_ok() {
+        *run = areas::runs::run_numbers(next);
+    }
+    areas::records::write_record(told, vector, sum, four_vectors, four_sums, patterns, counts)
 }
 
 // The totals of a run that is at its end, macroblocks, events and sums: 23.
 pub fn hencouch_close(run: &[u64; 5], totals: &mut [u64; 3]) -> u8
     ensures { let closed = close_of (run_of run.now) in
-        (result ≡ code_of closed.reply)
-        × (totals.new ≡ done closed.reply (totals_numbers closed.totals) totals.old) }
+        (result ≡ code_of closed) × (totals.new ≡ written closed totals_numbers totals.old) }
 {
     let before = areas::runs::run_of(*run);
     let closed = picture::close(before);

@@ -1,11 +1,11 @@
 // The entries that search for a macroblock and code it, against a lent prediction or one made here.
 ghost use Rattle.std.specs.Prelude.{◌≡◌};
 ghost use Rattle.refusal.specs.Number.{code_of};
-ghost use Rattle.refusal.specs.Reply.{done};
+ghost use Rattle.refusal.specs.Reply.{written};
 ghost use Rattle.reader.specs.Handed.{areas};
-ghost use Rattle.macroblock.specs.Request.{request, reply_of};
-ghost use Rattle.macroblock.specs.Answer.{answer_of, record_of};
-ghost use Rattle.macroblock.specs.Predicted.{predicted_request, predicted_reply_of, predicted_answer_of, predicting};
+ghost use Rattle.macroblock.specs.Request.{request};
+ghost use Rattle.macroblock.specs.Answer.{answer_of};
+ghost use Rattle.macroblock.specs.Predicted.{predicted_request, predicted_answer_of};
 ghost use Rattle.plane.specs.Plane.{geometry_of};
 ghost use Rattle.areas.specs.Numbers.{size_of, macroblock_at, macroblock_settings, reference_geometry};
 ghost use Rattle.areas.specs.Whole.{record_areas, record_areas_of};
@@ -57,9 +57,10 @@ pub fn hencouch_code_macroblock(
         patterns.old counts.old in
         let new = record_areas vector.new sum.new four_vectors.new four_sums.new
         patterns.new counts.new in
-        (result ≡ code_of (reply_of q))
-        × (areas lasts.new runs.new levels.new ≡ (answer_of q).areas)
-        × (new ≡ done (reply_of q) (record_areas_of (record_of q)) old) }
+        let told = answer_of q in
+        (result ≡ code_of told.coded)
+        × (areas lasts.new runs.new levels.new ≡ told.areas)
+        × (new ≡ written told.coded record_areas_of old) }
 {
     let settings = areas::numbers::settings_of(
         fcode,
@@ -81,22 +82,19 @@ pub fn hencouch_code_macroblock(
         settings, reference, geometry, y, cb, cr, size, place, weights, pred_y, pred_cb, pred_cr,
         lasts, runs, levels,
     );
-    let reply = coded.reply;
-    let given = coded.record;
     areas::records::write_record(
-        reply,
-        given,
+        coded,
         vector,
         sum,
         four_vectors,
         four_sums,
         patterns,
         counts,
-    );
-    refusal::code(reply)
+    )
 }
 
-// Searches for a macroblock, predicts it by the vectors found and codes it: 1, 2, 3, 4, 5, 6, 7, 8, 10, 11, 12, 14, 31. Any first_method but 0 is the first method.
+// Searches for a macroblock, predicts it by the vectors found and codes it: 1, 2, 3, 4, 5, 6, 7, 8, 10, 11, 12, 14, 31. Any first_method
+// but 0 is the first method.
 pub fn hencouch_code_predicted_macroblock(
     fcode: u32,
     mode: u32,
@@ -140,9 +138,10 @@ pub fn hencouch_code_predicted_macroblock(
         patterns.old counts.old in
         let new = record_areas vector.new sum.new four_vectors.new four_sums.new
         patterns.new counts.new in
-        (result ≡ code_of (predicted_reply_of n))
-        × (areas lasts.new runs.new levels.new ≡ (predicted_answer_of n).areas)
-        × (new ≡ done (predicted_reply_of n) (record_areas_of (record_of (predicting n))) old) }
+        let told = predicted_answer_of n in
+        (result ≡ code_of told.coded)
+        × (areas lasts.new runs.new levels.new ≡ told.areas)
+        × (new ≡ written told.coded record_areas_of old) }
 {
     let settings = areas::numbers::settings_of(
         fcode,
@@ -160,17 +159,13 @@ pub fn hencouch_code_predicted_macroblock(
         settings, rounding, ref_y, ref_cb, ref_cr, geometry, y, cb, cr, size, place, weights,
         lasts, runs, levels,
     );
-    let reply = coded.reply;
-    let given = coded.record;
     areas::records::write_record(
-        reply,
-        given,
+        coded,
         vector,
         sum,
         four_vectors,
         four_sums,
         patterns,
         counts,
-    );
-    refusal::code(reply)
+    )
 }

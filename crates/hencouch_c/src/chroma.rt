@@ -1,13 +1,11 @@
 // The chroma vector of a macroblock, in the mode of a number.
 ghost use Rattle.std.specs.Prelude.{◌≡◌};
 ghost use Rattle.refusal.specs.Number.{code_of};
-ghost use Rattle.refusal.specs.Reply.{done};
+ghost use Rattle.refusal.specs.Reply.{written};
 ghost use Rattle.prediction.specs.declared.PvopMbMotion.TheVariants.{OneMv};
 ghost use Rattle.areas.specs.Numbers.{vector_of, four_motion};
 ghost use Rattle.areas.specs.Search.{vector_area};
 ghost use Rattle.predicting.specs.Chroma.{chroma_in};
-
-use prediction::PvopMbMotion;
 
 // Of one vector: 2, 8.
 #[unsafe(no_mangle)]
@@ -18,7 +16,7 @@ pub extern "C" fn hencouch_chroma_vector(
     vector: &mut [i32; 2],
 ) -> u8
     ensures { let told = chroma_in mode (OneMv (vector_of mv_x mv_y)) in
-        (result ≡ code_of told.reply) × (vector.new ≡ done told.reply (vector_area told.vector) vector.old) }
+        (result ≡ code_of told) × (vector.new ≡ written told vector_area vector.old) }
 {
     hencouch::chroma::hencouch_chroma_vector(mode, mv_x, mv_y, vector)
 }
@@ -31,7 +29,7 @@ pub extern "C" fn hencouch_chroma_vector_4mv(
     vector: &mut [i32; 2],
 ) -> u8
     ensures { let told = chroma_in mode (four_motion vectors.now) in
-        (result ≡ code_of told.reply) × (vector.new ≡ done told.reply (vector_area told.vector) vector.old) }
+        (result ≡ code_of told) × (vector.new ≡ written told vector_area vector.old) }
 {
     hencouch::chroma::hencouch_chroma_vector_4mv(mode, vectors, vector)
 }

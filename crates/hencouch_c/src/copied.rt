@@ -6,9 +6,6 @@ ghost use Rattle.plane.specs.Plane.{plane_of, sample_at, copied_block, geometry_
 ghost use Rattle.plane.specs.Reference.{reference_reply, copy_reply};
 ghost use Rattle.plane.specs.Source.{source_luma_block_reply, source_luma, source_chroma_block_reply, source_chroma};
 ghost use Rattle.areas.specs.Numbers.{point_of, size_of, macroblock_at};
-ghost use Rattle.hencouch.specs.ToldFetched.{fetched_code, fetched_in};
-
-use plane::{Fetched, Geometry, MacroblockPlace, SourceSize};
 
 // The sample at column x and row y, both clamped: 4, 5.
 #[unsafe(no_mangle)]

@@ -1,7 +1,7 @@
 // The parts of an inter macroblock: activity, residual, levels and events, patterns.
 ghost use Rattle.std.specs.Prelude.{◌≡◌, length};
 ghost use Rattle.refusal.specs.Number.{code_of};
-ghost use Rattle.refusal.specs.Reply.{done};
+ghost use Rattle.refusal.specs.Reply.{done, value_or};
 ghost use Rattle.reader.specs.Handed.{areas};
 ghost use Rattle.plane.specs.Samples.{samples};
 ghost use Rattle.coding.specs.Residual.{source_of, residual_of};
@@ -10,8 +10,6 @@ ghost use Rattle.coding.specs.Reply.{residual_reply, coding_reply};
 ghost use Rattle.macroblock.specs.Activities.{intra_activity};
 ghost use Rattle.areas.specs.Numbers.{size_of, macroblock_at, is_set};
 ghost use Rattle.areas.specs.Whole.{patterns_area};
-
-use plane::{MacroblockPlace, SourceSize};
 
 // How far a macroblock's luma lies from its mean: 6, 7, 8.
 #[unsafe(no_mangle)]
@@ -24,7 +22,7 @@ pub extern "C" fn hencouch_intra_activity(
     activity: &mut u32,
 ) -> u8
     ensures { let told = intra_activity source.now (size_of width height) (macroblock_at column row) in
-        (result ≡ code_of told.reply) × (activity.new ≡ done told.reply told.sum activity.old) }
+        (result ≡ code_of told) × (activity.new ≡ value_or told activity.old) }
 {
     hencouch::inter::hencouch_intra_activity(source, width, height, column, row, activity)
 }

@@ -1,14 +1,12 @@
 // Motion search: one vector for a macroblock, or one for each of its four 8 x 8 blocks.
 ghost use Rattle.std.specs.Prelude.{◌≡◌, [], ◌∷◌, length};
 ghost use Rattle.refusal.specs.Number.{code_of};
-ghost use Rattle.refusal.specs.Reply.{done};
+ghost use Rattle.refusal.specs.Reply.{written};
 ghost use Rattle.search.specs.Request.{search_request};
 ghost use Rattle.search.specs.Estimate.{estimate_motion, estimate_four};
 ghost use Rattle.plane.specs.Plane.{geometry_of};
 ghost use Rattle.areas.specs.Numbers.{vector_of, size_of, macroblock_at};
-ghost use Rattle.areas.specs.Search.{one_areas_reply, four_areas_reply, vector_area, vectors_area};
-
-use plane::{Geometry, MacroblockPlace, SourceSize};
+ghost use Rattle.areas.specs.Search.{vector_area, vectors_area, one_answer, four_answer};
 
 // One vector and its sum: 1, 2, 3, 4, 5, 6, 7, 8, 12.
 #[unsafe(no_mangle)]
@@ -30,11 +28,10 @@ pub extern "C" fn hencouch_estimate_motion(
 ) -> u8
     ensures { let q = search_request source.now (size_of width height) (macroblock_at column row)
         reference.now (geometry_of ref_width ref_height stride) mode bpp fcode in
-        let found = estimate_motion q in
-        let reply = one_areas_reply found.reply (length vector.old) (length sum.old) in
-        (result ≡ code_of reply)
-        × (vector.new ≡ done reply (vector_area found.vector) vector.old)
-        × (sum.new ≡ done reply (found.sum ∷ []) sum.old) }
+        let found = one_answer (estimate_motion q) (length vector.old) (length sum.old) in
+        (result ≡ code_of found)
+        × (vector.new ≡ written found (λ e. vector_area e.vector) vector.old)
+        × (sum.new ≡ written found (λ e. e.sum ∷ []) sum.old) }
 {
     hencouch::motion::hencouch_estimate_motion(
         source, width, height, column, row, reference, ref_width, ref_height, stride, mode, bpp,
@@ -64,11 +61,10 @@ pub extern "C" fn hencouch_estimate_motion_4mv(
 ) -> u8
     ensures { let q = search_request source.now (size_of width height) (macroblock_at column row)
         reference.now (geometry_of ref_width ref_height stride) mode bpp fcode in
-        let found = estimate_four q (vector_of seed_x seed_y) in
-        let reply = four_areas_reply found.reply (length vectors.old) (length sums.old) in
-        (result ≡ code_of reply)
-        × (vectors.new ≡ done reply (vectors_area found.vectors) vectors.old)
-        × (sums.new ≡ done reply found.sums sums.old) }
+        let found = four_answer (estimate_four q (vector_of seed_x seed_y)) (length vectors.old) (length sums.old) in
+        (result ≡ code_of found)
+        × (vectors.new ≡ written found (λ e. vectors_area e.vectors) vectors.old)
+        × (sums.new ≡ written found (λ e. e.sums) sums.old) }
 {
     hencouch::motion::hencouch_estimate_motion_4mv(
         source, width, height, column, row, reference, ref_width, ref_height, stride, mode, bpp,

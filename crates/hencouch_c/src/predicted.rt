@@ -10,9 +10,6 @@ ghost use Rattle.plane.specs.Corner.{block_at};
 ghost use Rattle.areas.specs.Numbers.{vector_of, point_of, four_motion};
 ghost use Rattle.predicting.specs.Luma.{luma_block_reply, luma_macroblock_reply};
 
-use plane::Geometry;
-use prediction::PvopMbMotion;
-
 // The luma of a block: 2, 3, 4, 5, 8, 12, 14, 31.
 #[unsafe(no_mangle)]
 pub extern "C" fn hencouch_predict_luma_block(

@@ -1,7 +1,8 @@
 // The picture run: a picture's macroblocks one after the other. A run is five numbers: width, height, macroblocks given, their events,
+// their one-vector sums.
 ghost use Rattle.std.specs.Prelude.{◌≡◌};
 ghost use Rattle.refusal.specs.Number.{code_of};
-ghost use Rattle.refusal.specs.Reply.{done};
+ghost use Rattle.refusal.specs.Reply.{done, written};
 ghost use Rattle.reader.specs.Handed.{areas};
 ghost use Rattle.macroblock.specs.Request.{request};
 ghost use Rattle.macroblock.specs.Predicted.{predicted_request};
@@ -11,14 +12,11 @@ ghost use Rattle.areas.specs.Numbers.{size_of, macroblock_settings, reference_ge
 ghost use Rattle.areas.specs.Run.{run_of, run_numbers, place_numbers, totals_numbers};
 ghost use Rattle.areas.specs.Whole.{record_areas, record_areas_of};
 
-use plane::{Geometry, SourceSize};
-
 // A run of which nothing is coded yet: 6.
 #[unsafe(no_mangle)]
 pub extern "C" fn hencouch_open(width: usize, height: usize, run: &mut [u64; 5]) -> u8
     ensures { let opened = open_of (size_of width height) in
-        (result ≡ code_of opened.reply)
-        × (run.new ≡ done opened.reply (run_numbers opened.run) run.old) }
+        (result ≡ code_of opened) × (run.new ≡ written opened run_numbers run.old) }
 {
     hencouch::run::hencouch_open(width, height, run)
 }
@@ -80,10 +78,10 @@ pub extern "C" fn hencouch_step(
         patterns.old counts.old in
         let new = record_areas vector.new sum.new four_vectors.new four_sums.new
         patterns.new counts.new in
-        (result ≡ code_of coded.reply)
-        × (run.new ≡ done coded.reply (run_numbers told.run) run.old)
+        (result ≡ code_of coded)
+        × (run.new ≡ done coded (run_numbers told.run) run.old)
         × (areas lasts.new runs.new levels.new ≡ told.answer.areas)
-        × (new ≡ done coded.reply (record_areas_of coded.«record») old) }
+        × (new ≡ written coded record_areas_of old) }
 {
     hencouch::run::hencouch_step(
         run,
@@ -119,7 +117,8 @@ pub extern "C" fn hencouch_step(
     )
 }
 
-// Searches for the run's next macroblock, predicts it by the vectors found and codes it: 21, 22, then 1, 2, 3, 4, 5, 6, 7, 10, 11, 12, 14, 31. Any first_method but 0 is the first method.
+// Searches for the run's next macroblock, predicts it by the vectors found and codes it: 21, 22, then 1, 2, 3, 4, 5, 6, 7, 10, 11, 12,
+// 14, 31. Any first_method but 0 is the first method.
 #[unsafe(no_mangle)]
 pub extern "C" fn hencouch_step_predicted(
     run: &mut [u64; 5],
@@ -166,10 +165,10 @@ pub extern "C" fn hencouch_step_predicted(
         patterns.old counts.old in
         let new = record_areas vector.new sum.new four_vectors.new four_sums.new
         patterns.new counts.new in
-        (result ≡ code_of coded.reply)
-        × (run.new ≡ done coded.reply (run_numbers told.run) run.old)
+        (result ≡ code_of coded)
+        × (run.new ≡ done coded (run_numbers told.run) run.old)
         × (areas lasts.new runs.new levels.new ≡ told.answer.areas)
-        × (new ≡ done coded.reply (record_areas_of coded.«record») old) }
+        × (new ≡ written coded record_areas_of old) }
 {
     hencouch::run::hencouch_step_predicted(
         run,
@@ -210,8 +209,7 @@ pub extern "C" fn hencouch_step_predicted(
 #[unsafe(no_mangle)]
 pub extern "C" fn hencouch_close(run: &[u64; 5], totals: &mut [u64; 3]) -> u8
     ensures { let closed = close_of (run_of run.now) in
-        (result ≡ code_of closed.reply)
-        × (totals.new ≡ done closed.reply (totals_numbers closed.totals) totals.old) }
+        (result ≡ code_of closed) × (totals.new ≡ written closed totals_numbers totals.old) }
 {
     hencouch::run::hencouch_close(run, totals)
 }

@@ -12,8 +12,6 @@ ghost use Rattle.quarter_sample.specs.Split.{split_quarter};
 ghost use Rattle.plane.specs.Corner.{block_at};
 ghost use Rattle.areas.specs.Numbers.{vector_of, is_set, flag_of};
 
-use plane::Geometry;
-
 // Half samples: 4, 5, 8, 12, 14.
 #[unsafe(no_mangle)]
 pub extern "C" fn hencouch_interpolate_block_into(

@@ -10,9 +10,6 @@ ghost use Rattle.prediction.specs.Prediction.{macroblock_prediction};
 ghost use Rattle.areas.specs.Numbers.{vector_of, four_motion, macroblock_at, reference_geometry};
 ghost use Rattle.predicting.specs.Samples.{macroblock_samples_reply};
 
-use plane::MacroblockPlace;
-use prediction::PvopMbMotion;
-
 // By one vector: 2, 3, 4, 5, 8, 12, 31.
 #[unsafe(no_mangle)]
 pub extern "C" fn hencouch_predict_macroblock(

@@ -10,8 +10,8 @@ use lib.ListN.{get_or, replicate}
 use Rattle.basis.specs.Lists.{tabulate}
 use Rattle.basis.proofs.Case.{then}
 use Rattle.basis.proofs.Lists.{get_or-tabulate}
-use Rattle.refusal.specs.declared.Reply.{Reply}
-use Rattle.refusal.specs.declared.Reply.TheVariants.{Done}
+use Rattle.refusal.specs.Reply.{Reply}
+use Rattle.std.specs.Prelude.{Ok}
 use Rattle.record.specs.declared.MotionVector.{MotionVector}
 use Rattle.record.specs.declared.Record.{Record}
 use Rattle.record.specs.Zero.{zero_vector}
@@ -39,7 +39,7 @@ use Rattle.macroblock.proofs.Sums.{one_sums, block_sums}
 
 -- the answer of a call that is not refused, at a rounding type
 abbrev pub made : ℕ → Request → Answer
-made rounding q = given Done (record_at rounding q) (areas_of (quantising_in q) (residual q))
+made rounding q = given (record_at rounding q) (areas_of (quantising_in q) (residual q))
 
 module _ (rounding : ℕ) (q : Request) where
   abbrev settings : SearchSettings
@@ -152,9 +152,9 @@ module _ (rounding : ℕ) (q : Request) where
       }
 
 -- of whatever reply let it be coded
-pub demanded_by : (q : Request) (r : Reply) → r ≡ Done → Quantisable (quantising_in q) → Demand 0 q (answer_by r q)
+pub demanded_by : (q : Request) (r : Reply) → r ≡ Ok tt → Quantisable (quantising_in q) → Demand 0 q (answer_by r q)
 demanded_by q r e set = subst (Demand 0 q) (done_answer q r _ _ e refl refl) (made_demanded 0 q set)
 
 -- THE THEOREM
-pub demanded : (q : Request) → reply_of q ≡ Done → Demand 0 q (answer_of q)
+pub demanded : (q : Request) → reply_of q ≡ Ok tt → Demand 0 q (answer_of q)
 demanded q e = demanded_by q (reply_of q) e (accepted q e).quantisable

@@ -8,7 +8,7 @@ use lib.Dec.{eqb, ltb}
 use lib.ListN.{length}
 use Rattle.refusal.specs.declared.Refusal.TheVariants.{Fcode, Mode, BitsPerPixel, ReferenceSize, ReferenceBytes}
 use Rattle.refusal.specs.declared.Refusal.TheVariants.{SourceSide, SourcePlane, Quantiser, Weight, Length, Choice, RoundingType}
-use Rattle.refusal.specs.declared.Reply.TheVariants.{Done}
+use Rattle.std.specs.Prelude.{Ok}
 use Rattle.refusal.specs.Number.{code_of}
 use Rattle.refusal.specs.Reply.{unless}
 use Rattle.refusal.specs.Test.{between}
@@ -50,7 +50,7 @@ reference_other : (g : Geometry) (bytes : ℕ) → Other 8 (reference_reply g by
 unfolding reference_reply
 reference_other g bytes = and_then_other _ (size_other g) (bytes_other g bytes)
 
-source_other : (s : SourceSize) (y cb cr : ℕ) (at : MacroblockPlace) → place_reply s at ≡ Done → Other 8 (source_reply s y cb cr at)
+source_other : (s : SourceSize) (y cb cr : ℕ) (at : MacroblockPlace) → place_reply s at ≡ Ok tt → Other 8 (source_reply s y cb cr at)
 unfolding source_reply source_side_reply
 source_other s y cb cr at e =
     and_then_other _
@@ -77,7 +77,7 @@ choice_other vectors scan =
     unless_other ((eqb vectors 1 || eqb vectors 4) && between 0 2 scan) Choice (λ e. omega arith) (done_other (omega arith))
 
 -- THE LAW
-pub never_8 : (q : Request) → place_reply q.size q.place ≡ Done → code_of (reply_of q) ≡ 8 → ⊥
+pub never_8 : (q : Request) → place_reply q.size q.place ≡ Ok tt → code_of (reply_of q) ≡ 8 → ⊥
 unfolding request_reply
 never_8 q e =
     (and_then_other _ (settings_other q.settings.fcode q.settings.mode q.settings.bpp)
@@ -97,7 +97,7 @@ planes_other g n =
     (and_then_other _ (bytes_other g.luma n.y)
     (and_then_other _ (bytes_other (chroma_geometry g) n.cb) (bytes_other (chroma_geometry g) n.cr))))
 
-areas_other : (weights lasts runs levels : ℕ) → Other 8 (unless (areas_long weights lasts runs levels) Length Done)
+areas_other : (weights lasts runs levels : ℕ) → Other 8 (unless (areas_long weights lasts runs levels) Length (Ok tt))
 areas_other weights lasts runs levels =
     unless_other (areas_long weights lasts runs levels) Length (λ e. omega arith) (done_other (omega arith))
 
@@ -105,7 +105,7 @@ rounding_other : (rounding : ℕ) → Other 8 (rounding_reply rounding)
 unfolding rounding_reply
 rounding_other rounding = unless_other (between 0 1 rounding) RoundingType (λ e. omega arith) (done_other (omega arith))
 
-pub predicted_never_8 : (n : PredictedRequest) → place_reply n.size n.place ≡ Done → code_of (predicted_reply_of n) ≡ 8 → ⊥
+pub predicted_never_8 : (n : PredictedRequest) → place_reply n.size n.place ≡ Ok tt → code_of (predicted_reply_of n) ≡ 8 → ⊥
 unfolding predicted_reply
 predicted_never_8 n e =
     (and_then_other _ (settings_other n.settings.fcode n.settings.mode n.settings.bpp)

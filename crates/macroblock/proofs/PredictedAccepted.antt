@@ -8,7 +8,7 @@ use lib.Dec.{eqb}
 use lib.ListN.{length, get_or, replicate}
 use Rattle.basis.proofs.Case.{both, then}
 use Rattle.refusal.specs.declared.Refusal.TheVariants.{Length}
-use Rattle.refusal.specs.declared.Reply.TheVariants.{Done}
+use Rattle.std.specs.Prelude.{Ok}
 use Rattle.refusal.specs.Reply.{unless, and_then}
 use Rattle.refusal.proofs.Replies.{first_done, then_done, unless-done}
 use Rattle.refusal.proofs.Tests.{and_left, and_right}
@@ -98,14 +98,14 @@ abbrev pub whole_lengths : PlaneLengths
 whole_lengths = record { y = 256; cb = 64; cr = 64 }
 
 pub record PredictedAccepted (n : PredictedRequest) : Type 0 where
-  pub searched : search_reply (searched_for (predicting n)) ≡ Done
+  pub searched : search_reply (searched_for (predicting n)) ≡ Ok tt
   pub predictable : prediction_reply (mode_of n.settings.mode n.settings.bpp) n.geometry (lengths_in n.reference)
-      (motion_of n.settings.vectors (found_in n).vector (found_in n).vectors) n.place n.rounding whole_lengths ≡ Done
-  pub source : source_reply n.size (length n.source.y) (length n.source.cb) (length n.source.cr) n.place ≡ Done
+      (motion_of n.settings.vectors (found_in n).vector (found_in n).vectors) n.place n.rounding whole_lengths ≡ Ok tt
+  pub source : source_reply n.size (length n.source.y) (length n.source.cb) (length n.source.cr) n.place ≡ Ok tt
   pub quantisable : Quantisable (quantising_in (predicting n))
   pub lent_is : Long n
 
-pub predicted_accepted : (n : PredictedRequest) → predicted_reply_of n ≡ Done → PredictedAccepted n
+pub predicted_accepted : (n : PredictedRequest) → predicted_reply_of n ≡ Ok tt → PredictedAccepted n
 unfolding predicted_reply
 predicted_accepted n e =
     let s = settings_reply n.settings.fcode n.settings.mode n.settings.bpp in
@@ -113,7 +113,7 @@ predicted_accepted n e =
     let o = source_reply n.size (length n.source.y) (length n.source.cb) (length n.source.cr) n.place in
     let w = weight_reply n.settings.quantiser n.settings.first_method n.weights in
     let fits = areas_long (length n.weights) (length n.areas.lasts) (length n.areas.runs) (length n.areas.levels) in
-    let l = unless fits Length Done in
+    let l = unless fits Length (Ok tt) in
     let c = choice_reply n.settings.vectors n.settings.scan in
     let t = rounding_reply n.rounding in
     let past-settings = then_done s (and_then r (and_then o (and_then w (and_then l (and_then c t))))) e in
@@ -124,7 +124,7 @@ predicted_accepted n e =
     let planes = first_done r (and_then o (and_then w (and_then l (and_then c t)))) past-settings in
     let source = first_done o (and_then w (and_then l (and_then c t))) past-planes in
     let luma = luma_alone _ _ _ _ _ source in
-    let lengths = long n (unless-done fits Length Done (first_done l (and_then c t) past_weight)) in
+    let lengths = long n (unless-done fits Length (Ok tt) (first_done l (and_then c t) past_weight)) in
     let searched =
     search_taken (searched_for (predicting n))
     (first_done s (and_then r (and_then o (and_then w (and_then l (and_then c t))))) e)

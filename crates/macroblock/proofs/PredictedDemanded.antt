@@ -1,7 +1,7 @@
 -- DEMAND 3 holds of the answer to every request whose prediction is made here and that is not refused, and what it is coded against is
 -- what the reader gets. Assumes nothing.
 use mathlib.Core.Path.{◌≡◌, refl, subst}
-use Rattle.refusal.specs.declared.Reply.TheVariants.{Done}
+use Rattle.std.specs.Prelude.{Ok}
 use Rattle.plane.specs.Samples.{Samples}
 use Rattle.reader.specs.Prediction.{read_prediction}
 use Rattle.macroblock.specs.Answer.{Answer, record_at}
@@ -20,7 +20,7 @@ unfolding made_prediction record_at
 made_same n = refl
 
 -- THE THEOREM
-pub predicted_demanded : (n : PredictedRequest) → predicted_reply_of n ≡ Done → PredictedDemand n (predicted_answer_of n)
+pub predicted_demanded : (n : PredictedRequest) → predicted_reply_of n ≡ Ok tt → PredictedDemand n (predicted_answer_of n)
 predicted_demanded n e =
     record {
       demand = demanded_by (predicting n) (predicted_reply_of n) e (predicted_accepted n e).quantisable;

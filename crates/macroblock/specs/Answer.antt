@@ -1,16 +1,16 @@
 -- What the entry that searches and codes answers (rules M1 to M3), for every request.
-use Rattle.std.specs.Prelude.{ℕ, cond, List, eqb, ℤ, replicate}
-use Rattle.refusal.specs.declared.Reply.{Reply}
+use Rattle.refusal.specs.declared.Refusal.{Refusal}
+use Rattle.std.specs.Prelude.{ℕ, cond, List, eqb, ℤ, replicate, Result}
+use Rattle.refusal.specs.Reply.{Reply, answer}
 use Rattle.refusal.specs.Reply.{done}
 use Rattle.record.specs.declared.Record.{Record}
-use Rattle.record.specs.Zero.{zero_vector, no_record}
+use Rattle.record.specs.Zero.{zero_vector}
 use Rattle.full_search.specs.Block.{Block}
 use Rattle.search.specs.declared.SearchSettings.{SearchSettings}
 use Rattle.search.specs.declared.EstimatedFour.{EstimatedFour}
 use Rattle.search.specs.Estimate.{one_vector, four_vectors_of}
 use Rattle.reader.specs.Handed.{Areas, areas}
 use Rattle.coding.specs.Coding.{areas_of, counts_of, luma_pattern_of, chroma_pattern_of}
-use Rattle.macroblock.specs.declared.Coded.{Coded}
 use Rattle.macroblock.specs.declared.Searched.{Searched}
 use Rattle.macroblock.specs.Request.{Request, residual, search_in, sought_in, quantising_in, reply_of}
 
@@ -52,17 +52,17 @@ record_of q = record_at 0 q
 
 -- what a call gives back: its value, and what the three areas then hold
 pub record Answer : Type 0 where
-  pub coded : Coded
+  pub coded : Result Record Refusal
   pub areas : Areas
 
-abbrev pub answered : Coded → List ℕ → List ℕ → List ℤ → Answer
+abbrev pub answered : Result Record Refusal → List ℕ → List ℕ → List ℤ → Answer
 answered coded lasts runs levels = record { coded = coded; areas = areas lasts runs levels }
 
--- by the reply: refused, the record is all 0 and the areas are as they were
+-- by the reply: refused, the areas are as they were
 unfoldable pub answer_by : Reply → Request → Answer
 answer_by reply q =
     record {
-      coded = record { reply = reply; «record» = done reply (record_of q) no_record };
+      coded = answer reply (record_of q);
       areas = done reply (areas_of (quantising_in q) (residual q)) q.areas;
     }
 

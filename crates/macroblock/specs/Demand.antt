@@ -1,9 +1,10 @@
 -- DEMAND 3 (rules D4 to D9), of an accepted request and its answer, as the reader (rules R1 to R6) gets it at a rounding type, which is 0.
 -- A field for each sentence; the sentence on ranges and lists is `Found` of search, field by field, over the reader's own sums.
+use Rattle.refusal.specs.Reply.{value_or}
 use Rattle.std.specs.Prelude.{ℕ, ◌+◌, ◌*◌, ◌/◌, ◌≤◌, ◌<◌, false, List, [], ◌≡◌, ℤ, pos, nat_abs, ◌-ℤ◌, get_or}
 use Rattle.record.specs.declared.MotionVector.{MotionVector}
 use Rattle.record.specs.declared.Record.{Record}
-use Rattle.record.specs.Zero.{zero_vector}
+use Rattle.record.specs.Zero.{zero_vector, no_record}
 use Rattle.plane.specs.Plane.{plane_of}
 use Rattle.plane.specs.Source.{eight_of}
 use Rattle.quantise.specs.Near.{tolerance}
@@ -16,9 +17,9 @@ use Rattle.coding.specs.Coding.{transformed, levels_of}
 use Rattle.macroblock.specs.Request.{Request, source, residual, search_in, mode_in, sought_in, quantising_in}
 use Rattle.macroblock.specs.Answer.{Answer}
 
--- the record of an answer
+-- the record of an answer, all 0 where it is refused
 abbrev pub record_in : Answer → Record
-record_in a = a.coded.«record»
+record_in a = value_or a.coded no_record
 
 -- what the reader is handed of a request and its answer
 abbrev pub handed : Request → Answer → Handed

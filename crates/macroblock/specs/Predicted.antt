@@ -2,8 +2,8 @@
 -- Its answer is that of the lent form to the prediction made here.
 use Rattle.std.specs.Prelude.{ℕ, ◌≡◌, List, ℤ, length}
 use Rattle.refusal.specs.declared.Refusal.TheVariants.{Length}
-use Rattle.refusal.specs.declared.Reply.{Reply}
-use Rattle.refusal.specs.declared.Reply.TheVariants.{Done}
+use Rattle.refusal.specs.Reply.{Reply}
+use Rattle.std.specs.Prelude.{Ok}
 use Rattle.refusal.specs.Reply.{unless, and_then}
 use Rattle.plane.specs.declared.SourceSize.{SourceSize}
 use Rattle.plane.specs.declared.MacroblockPlace.{MacroblockPlace}
@@ -110,7 +110,7 @@ predicted_reply s rounding geometry size place weights n =
     (and_then (planes_reply geometry n.reference)
     (and_then (source_reply size n.source.y n.source.cb n.source.cr place)
     (and_then (weight_reply s.quantiser s.first_method weights)
-    (and_then (unless (areas_long n.weights n.lasts n.runs n.levels) Length Done)
+    (and_then (unless (areas_long n.weights n.lasts n.runs n.levels) Length (Ok tt))
     (and_then (choice_reply s.vectors s.scan)
     (rounding_reply rounding))))))
 

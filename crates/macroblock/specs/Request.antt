@@ -1,8 +1,8 @@
 -- A call's arguments as one value, and what turns it back, in its order (rules O1 to O6): 1 2 3 4 5 6 7 8 10 11 12 14.
 use Rattle.std.specs.Prelude.{ℕ, Bool, ◌&&◌, List, eqb, ℤ, length}
 use Rattle.refusal.specs.declared.Refusal.TheVariants.{Length, Choice}
-use Rattle.refusal.specs.declared.Reply.{Reply}
-use Rattle.refusal.specs.declared.Reply.TheVariants.{Done}
+use Rattle.refusal.specs.Reply.{Reply}
+use Rattle.std.specs.Prelude.{Ok}
 use Rattle.refusal.specs.Reply.{unless, and_then}
 use Rattle.refusal.specs.Bounds.{is_vector_count}
 use Rattle.refusal.specs.Test.{between}
@@ -92,11 +92,11 @@ areas_long weights lasts runs levels = eqb weights 64 && (eqb lasts 384 && (eqb 
 unfoldable pub lengths_reply : Lengths → Reply
 lengths_reply n =
     let prediction = eqb n.pred_y 256 && (eqb n.pred_cb 64 && eqb n.pred_cr 64) in
-    unless (prediction && areas_long n.weights n.lasts n.runs n.levels) Length Done
+    unless (prediction && areas_long n.weights n.lasts n.runs n.levels) Length (Ok tt)
 
 -- 14: vector count not 1 or 4; scan number not 0..2
 unfoldable pub choice_reply : ℕ → ℕ → Reply
-choice_reply vectors scan = unless (is_vector_count vectors && between 0 2 scan) Choice Done
+choice_reply vectors scan = unless (is_vector_count vectors && between 0 2 scan) Choice (Ok tt)
 
 -- the whole list
 unfoldable pub request_reply : Settings → Geometry → SourceSize → MacroblockPlace → List ℕ → Lengths → Reply

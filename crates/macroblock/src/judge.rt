@@ -11,32 +11,36 @@ use refusal::{Refusal, Reply};
 fn areas_long(weights: usize, lasts: usize, runs: usize, levels: usize) -> bool
     ensures { result ≡ areas_long weights lasts runs levels }
 {
-    let areas = refusal::both(lasts == 384, refusal::both(runs == 384, levels == 384));
-    refusal::both(weights == 64, areas)
+    weights == 64 && lasts == 384 && runs == 384 && levels == 384
 }
 
 // 12
+#[tactic(auto, unfolding(crate::specs::Request::lengths_reply))]
 fn lengths_reply(n: Lengths) -> Reply
     ensures { result ≡ lengths_reply n }
 {
-    let prediction = refusal::both(
-        n.pred_y == 256,
-        refusal::both(n.pred_cb == 64, n.pred_cr == 64),
-    );
-    let long = refusal::both(prediction, areas_long(n.weights, n.lasts, n.runs, n.levels));
-    refusal::unless(long, Refusal::Length, Reply::Done)
+    refusal::require(
+        n.pred_y == 256
+            && n.pred_cb == 64
+            && n.pred_cr == 64
+            && areas_long(n.weights, n.lasts, n.runs, n.levels),
+        Refusal::Length,
+    )
 }
 
 // 14
+#[tactic(auto, unfolding(crate::specs::Request::choice_reply))]
 fn choice_reply(vectors: u32, scan: u32) -> Reply
     ensures { result ≡ choice_reply vectors scan }
 {
-    let count = refusal::either(vectors == 1, vectors == 4);
-    let known = refusal::between(0, 2, scan as usize);
-    refusal::unless(refusal::both(count, known), Refusal::Choice, Reply::Done)
+    refusal::require(
+        (vectors == 1 || vectors == 4) && (0..=2).contains(&scan),
+        Refusal::Choice,
+    )
 }
 
 // 1 2 3 4 5 6 7 8 10 11 12 14
+#[tactic(auto, unfolding(crate::specs::Request::request_reply))]
 pub fn request_reply(
     settings: Settings,
     geometry: Geometry,
@@ -47,19 +51,16 @@ pub fn request_reply(
 ) -> Reply
     ensures { result ≡ request_reply settings geometry size place weights.now n }
 {
-    let choice = choice_reply(settings.vectors, settings.scan);
-    let lengths = refusal::and_then(lengths_reply(n), choice);
-    let weight = quantise::weight_reply(settings.quantiser, settings.first_method, weights);
-    let coding = refusal::and_then(weight, lengths);
-    let source = plane::source::source_reply(size, n.y, n.cb, n.cr, place);
-    let planes = refusal::and_then(source, coding);
-    let bounds = plane::reference_reply(geometry, n.reference);
-    let rest = refusal::and_then(bounds, planes);
-    let first = search::settings_reply(settings.fcode, settings.mode, settings.bpp);
-    refusal::and_then(first, rest)
+    search::settings_reply(settings.fcode, settings.mode, settings.bpp)?;
+    plane::reference_reply(geometry, n.reference)?;
+    plane::source::source_reply(size, n.y, n.cb, n.cr, place)?;
+    quantise::weight_reply(settings.quantiser, settings.first_method, weights)?;
+    lengths_reply(n)?;
+    choice_reply(settings.vectors, settings.scan)
 }
 
 // 1 2 3 4 5 6 7 8 10 11 12 14 31, 4 and 5 of all three planes
+#[tactic(auto, unfolding(crate::specs::Predicted::predicted_reply))]
 pub fn predicted_reply(
     settings: Settings,
     rounding: u8,
@@ -71,19 +72,15 @@ pub fn predicted_reply(
 ) -> Reply
     ensures { result ≡ predicted_reply settings rounding geometry size place weights.now n }
 {
-    let reference = n.reference;
     let source = n.source;
-    let rounding_type = prediction::rounding_reply(rounding);
-    let choice = choice_reply(settings.vectors, settings.scan);
-    let last = refusal::and_then(choice, rounding_type);
-    let long = areas_long(n.weights, n.lasts, n.runs, n.levels);
-    let lengths = refusal::and_then(refusal::unless(long, Refusal::Length, Reply::Done), last);
-    let weight = quantise::weight_reply(settings.quantiser, settings.first_method, weights);
-    let coding = refusal::and_then(weight, lengths);
-    let given = plane::source::source_reply(size, source.y, source.cb, source.cr, place);
-    let planes = refusal::and_then(given, coding);
-    let bounds = prediction::planes_reply(geometry, reference);
-    let rest = refusal::and_then(bounds, planes);
-    let first = search::settings_reply(settings.fcode, settings.mode, settings.bpp);
-    refusal::and_then(first, rest)
+    search::settings_reply(settings.fcode, settings.mode, settings.bpp)?;
+    prediction::planes_reply(geometry, n.reference)?;
+    plane::source::source_reply(size, source.y, source.cb, source.cr, place)?;
+    quantise::weight_reply(settings.quantiser, settings.first_method, weights)?;
+    refusal::require(
+        areas_long(n.weights, n.lasts, n.runs, n.levels),
+        Refusal::Length,
+    )?;
+    choice_reply(settings.vectors, settings.scan)?;
+    prediction::rounding_reply(rounding)
 }

@@ -1,8 +1,7 @@
 // One macroblock: its activity, and the entries that search for it and code it, against a lent prediction or one made here.
 #![tactic(auto)]
 
-ghost use Rattle.std.specs.Prelude.{◌≡◌};
-ghost use Rattle.refusal.specs.declared.Reply.TheVariants.{Done};
+ghost use Rattle.std.specs.Prelude.{◌≡◌, OnOk};
 ghost use Rattle.macroblock.specs.Request.{request};
 ghost use Rattle.macroblock.specs.Answer.{answered, answer_of};
 ghost use Rattle.macroblock.specs.Demand.{Demand};
@@ -12,7 +11,7 @@ ghost use Rattle.macroblock.specs.Activities.{intra_activity};
 use plane::{Geometry, MacroblockPlace, SourceSize};
 use prediction::{PlaneLengths, ReferenceGeometry};
 use record::{MotionVector, Record};
-use refusal::Reply;
+use refusal::Refusal;
 
 mod activities;
 mod judge;
@@ -21,7 +20,7 @@ mod ready;
 
 // fcode 1..7; mode 0 (half) or 1 (quarter) and its bits per pixel; quantiser 1..31 and whether by the first method; one vector or four;
 // scan 0..2.
-#[derive(Clone, Copy)]
+#[derive(Clone, Copy, Debug, PartialEq, Eq)]
 pub struct Settings {
     pub fcode: u32,
     pub mode: u32,
@@ -30,20 +29,6 @@ pub struct Settings {
     pub first_method: bool,
     pub vectors: u32,
     pub scan: u32,
-}
-
-// The reply, and the macroblock's record, all 0 where the call is refused.
-#[derive(Clone, Copy)]
-pub struct Coded {
-    pub reply: Reply,
-    pub record: Record,
-}
-
-// The reply, and a macroblock's activity, 0 where the call is refused.
-#[derive(Clone, Copy)]
-pub struct Activity {
-    pub reply: Reply,
-    pub sum: u32,
 }
 
 // The one vector and its sum; the four and theirs, all 0 where four were not searched for.
@@ -83,20 +68,13 @@ struct PredictedLengths {
 }
 
 // How far a macroblock's luma lies from its mean: 6, 7, 8.
-pub fn intra_activity(y: &[u8], size: SourceSize, place: MacroblockPlace) -> Activity
+#[tactic(auto, unfolding(crate::specs::Activities::intra_activity, plane::specs::Reference::length_reply))]
+pub fn intra_activity(y: &[u8], size: SourceSize, place: MacroblockPlace) -> Result<u32, Refusal>
     ensures { result ≡ intra_activity y.now size place }
 {
     let mut block = [0u8; 256];
-    match plane::source::luma_block(y, size, place, &mut block) {
-        Reply::Refused(why) => Activity {
-            reply: Reply::Refused(why),
-            sum: 0,
-        },
-        Reply::Done => Activity {
-            reply: Reply::Done,
-            sum: activities::activity(&block),
-        },
-    }
+    plane::source::luma_block(y, size, place, &mut block)?;
+    Ok(activities::activity(&block))
 }
 
 // Searches for a macroblock and codes it against a lent prediction: 1, 2, 3, 4, 5, 6, 7, 8, 10, 11, 12, 14. Where it is not refused,
@@ -117,12 +95,12 @@ pub fn code_macroblock(
     lasts: &mut [u8],
     runs: &mut [u8],
     levels: &mut [i32],
-) -> Coded
+) -> Result<Record, Refusal>
     ensures { let q = request settings reference.now geometry y.now cb.now cr.now size place
         weights.now pred_y.now pred_cb.now pred_cr.now
         lasts.old runs.old levels.old in
         let a = answered result lasts.new runs.new levels.new in
-        (a ≡ answer_of q) × (result.reply ≡ Done → Demand 0 q a) }
+        (a ≡ answer_of q) × OnOk result (Demand 0 q a) }
 {
     let n = Lengths {
         reference: reference.len(),
@@ -137,23 +115,11 @@ pub fn code_macroblock(
         runs: runs.len(),
         levels: levels.len(),
     };
-    let none = record::no_record();
-    match judge::request_reply(settings, geometry, size, place, weights, n) {
-        Reply::Refused(why) => Coded {
-            reply: Reply::Refused(why),
-            record: none,
-        },
-        Reply::Done => {
-            let record = ready::code_ready(
-                settings, reference, geometry, y, cb, cr, size, place, weights, pred_y, pred_cb,
-                pred_cr, lasts, runs, levels,
-            );
-            Coded {
-                reply: Reply::Done,
-                record,
-            }
-        }
-    }
+    judge::request_reply(settings, geometry, size, place, weights, n)?;
+    Ok(ready::code_ready(
+        settings, reference, geometry, y, cb, cr, size, place, weights, pred_y, pred_cb, pred_cr,
+        lasts, runs, levels,
+    ))
 }
 
 // Searches for a macroblock, predicts it by the vectors found and codes it: 1, 2, 3, 4, 5, 6, 7, 8, 10, 11, 12, 14, 31. Where it is not
@@ -174,12 +140,12 @@ pub fn code_predicted_macroblock(
     lasts: &mut [u8],
     runs: &mut [u8],
     levels: &mut [i32],
-) -> Coded
+) -> Result<Record, Refusal>
     ensures { let n = predicted_request settings rounding reference_y.now reference_cb.now reference_cr.now geometry
         y.now cb.now cr.now size place weights.now
         lasts.old runs.old levels.old in
         let a = answered result lasts.new runs.new levels.new in
-        (a ≡ predicted_answer_of n) × (result.reply ≡ Done → PredictedDemand n a) }
+        (a ≡ predicted_answer_of n) × OnOk result (PredictedDemand n a) }
 {
     let n = PredictedLengths {
         reference: PlaneLengths {
@@ -197,34 +163,22 @@ pub fn code_predicted_macroblock(
         runs: runs.len(),
         levels: levels.len(),
     };
-    let none = record::no_record();
-    match judge::predicted_reply(settings, rounding, geometry, size, place, weights, n) {
-        Reply::Refused(why) => Coded {
-            reply: Reply::Refused(why),
-            record: none,
-        },
-        Reply::Done => {
-            let coded = predicted::code_predicted(
-                settings,
-                rounding,
-                reference_y,
-                reference_cb,
-                reference_cr,
-                geometry,
-                y,
-                cb,
-                cr,
-                size,
-                place,
-                weights,
-                lasts,
-                runs,
-                levels,
-            );
-            Coded {
-                reply: Reply::Done,
-                record: coded,
-            }
-        }
-    }
+    judge::predicted_reply(settings, rounding, geometry, size, place, weights, n)?;
+    Ok(predicted::code_predicted(
+        settings,
+        rounding,
+        reference_y,
+        reference_cb,
+        reference_cr,
+        geometry,
+        y,
+        cb,
+        cr,
+        size,
+        place,
+        weights,
+        lasts,
+        runs,
+        levels,
+    ))
 }

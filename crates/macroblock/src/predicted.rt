@@ -1,6 +1,5 @@
 // The work on a request whose prediction is made here and that is not refused: search, prediction, residual, events, record.
 ghost use Rattle.std.specs.Prelude.{◌≡◌};
-ghost use Rattle.refusal.specs.declared.Reply.TheVariants.{Done};
 ghost use Rattle.plane.specs.Samples.{samples};
 ghost use Rattle.prediction.specs.Luma.{mode_of};
 ghost use Rattle.prediction.specs.Planes.{planes_of, lengths_in};
@@ -33,7 +32,7 @@ fn predict_found(
     requires { let reference = samples reference_y.now reference_cb.now reference_cr.now in
         let out = samples y.old cb.old cr.old in
         let motion = motion_of settings.vectors found.vector found.vectors in
-        prediction_reply (mode_of settings.mode settings.bpp) geometry (lengths_in reference) motion place rounding (lengths_in out) ≡ Done }
+        prediction_reply (mode_of settings.mode settings.bpp) geometry (lengths_in reference) motion place rounding (lengths_in out) ≡ Ok tt }
     ensures { let reference = samples reference_y.now reference_cb.now reference_cr.now in
         let motion = motion_of settings.vectors found.vector found.vectors in
         samples y.new cb.new cr.new
@@ -55,7 +54,8 @@ fn predict_found(
         y,
         cb,
         cr,
-    );
+    )
+    .unwrap();
 }
 
 // The record, with the events in the three areas.
@@ -78,7 +78,7 @@ pub fn code_predicted(
 ) -> Record
     requires { let n = predicted_request settings rounding reference_y.now reference_cb.now reference_cr.now geometry
         y.now cb.now cr.now size place weights.now lasts.old runs.old levels.old in
-        predicted_reply_of n ≡ Done }
+        predicted_reply_of n ≡ Ok tt }
     ensures { let n = predicted_request settings rounding reference_y.now reference_cb.now reference_cr.now geometry
         y.now cb.now cr.now size place weights.now
         lasts.old runs.old levels.old in

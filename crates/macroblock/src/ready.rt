@@ -1,6 +1,5 @@
-// The work on a request that is not refused: search, residual, events, record.
+// The work on a request that is not refused, in which no step is: search, residual, events, record.
 ghost use Rattle.std.specs.Prelude.{◌≡◌, length};
-ghost use Rattle.refusal.specs.declared.Reply.TheVariants.{Done};
 ghost use Rattle.plane.specs.Plane.{plane_of};
 ghost use Rattle.search.specs.Request.{search_request, macroblock, search_reply};
 ghost use Rattle.reader.specs.Handed.{areas};
@@ -16,6 +15,7 @@ use plane::{Geometry, MacroblockPlace, SourceSize};
 use record::Record;
 
 // The one vector, and the four around it where they are wanted.
+#[tactic(auto, unfolding(crate::specs::Answer::searched_of, search::specs::Estimate::estimate_motion, search::specs::Estimate::estimate_four))]
 pub fn search_vectors(
     settings: Settings,
     y: &[u8],
@@ -25,32 +25,32 @@ pub fn search_vectors(
     geometry: Geometry,
 ) -> Searched
     requires { let q = search_request y.now size place reference.now geometry settings.mode settings.bpp settings.fcode in
-        search_reply q ≡ Done }
+        search_reply q ≡ Ok tt }
     ensures { let b = macroblock y.now size place (plane_of reference.now geometry) in
         result ≡ searched_of settings.vectors (search_in 0 settings) b }
 {
     let mode = settings.mode;
     let bpp = settings.bpp;
     let fcode = settings.fcode;
-    let one = search::estimate_motion(y, size, place, reference, geometry, mode, bpp, fcode);
-    let vector = one.vector;
-    let zero = record::zero_vector();
+    let one = search::estimate_motion(
+        y, size, place, reference, geometry, mode, bpp, fcode,
+    ).unwrap();
     if settings.vectors != 4 {
         return Searched {
-            vector,
+            vector: one.vector,
             sum: one.sum,
-            vectors: [zero; 4],
+            vectors: [record::zero_vector(); 4],
             sums: [0; 4],
         };
     }
-    let seed = one.vector;
     let four = search::estimate_motion_4mv(
-        y, size, place, reference, geometry, mode, bpp, fcode, seed,
-    );
+        y, size, place, reference, geometry, mode, bpp, fcode, one.vector,
+    )
+    .unwrap();
     let vectors = four.vectors;
     let sums = four.sums;
     Searched {
-        vector,
+        vector: one.vector,
         sum: one.sum,
         vectors,
         sums,
@@ -59,6 +59,7 @@ pub fn search_vectors(
 
 // The events of source less prediction, and how many each of the six blocks has. `marks` tells which event is its block's last,
 // `zero_runs` how many zeros stand before each.
+#[tactic(auto, using(coding::proofs::Accepted::residual_ready))]
 pub fn code_residual(
     settings: Settings,
     y: &[u8],
@@ -95,11 +96,12 @@ pub fn code_residual(
         lent_cb,
         lent_cr,
         &mut differences,
-    );
+    )
+    .unwrap();
     let quantiser = settings.quantiser;
     let first_method = settings.first_method;
     let scan = settings.scan;
-    let counted = coding::quantise_inter_residual(
+    coding::quantise_inter_residual(
         &differences,
         quantiser,
         first_method,
@@ -108,8 +110,8 @@ pub fn code_residual(
         marks,
         zero_runs,
         levels,
-    );
-    counted.counts
+    )
+    .unwrap()
 }
 
 // The record of what was found and how many events each block has.
@@ -151,7 +153,7 @@ pub fn code_ready(
 ) -> Record
     requires { let q = request settings reference.now geometry y.now cb.now cr.now size place weights.now
         pred_y.now pred_cb.now pred_cr.now lasts.old runs.old levels.old in
-        reply_of q ≡ Done }
+        reply_of q ≡ Ok tt }
     ensures { let q = request settings reference.now geometry y.now cb.now cr.now size place
         weights.now pred_y.now pred_cb.now pred_cr.now
         lasts.old runs.old levels.old in

@@ -2,7 +2,7 @@
 use Rattle.std.proofs.Common.{◌≡◌, ℕ, zero, suc, ◌*◌, ◌/◌, ◌%◌, ◌<◌, false, ◌&&◌, eqb, ltb, sym, refl, ap, ◌∙◌, mod-lt, mul_comm, div-lt_iff_lt-mul, zero-mul, arith, ltb-true, le-ltb, lt-ltb, eqb-true}
 use Rattle.basis.proofs.Case.{both, leb_same}
 use Rattle.refusal.specs.declared.Refusal.TheVariants.{AfterLast, OtherSize, Place}
-use Rattle.refusal.specs.declared.Reply.TheVariants.{Done}
+use Rattle.std.specs.Prelude.{Ok}
 use Rattle.refusal.specs.Reply.{unless}
 use Rattle.refusal.proofs.Replies.{unless-done, after, passed}
 use Rattle.refusal.proofs.Tests.{and_left, and_right}
@@ -37,25 +37,25 @@ pub record LetThrough (r : Run) (s : SourceSize) : Type 0 where
   pub width : r.size.width ≡ s.width
   pub height : r.size.height ≡ s.height
 
-pub let_through : (r : Run) (s : SourceSize) → run_reply r s ≡ Done → LetThrough r s
+pub let_through : (r : Run) (s : SourceSize) → run_reply r s ≡ Ok tt → LetThrough r s
 unfolding run_reply
 let_through r s e =
     let w = eqb r.size.width s.width in
     let h = eqb r.size.height s.height in
     let next = ltb r.macroblocks (macroblocks_in r.size) in
-    let same = unless-done (w && h) OtherSize Done (after next AfterLast (unless (w && h) OtherSize Done) e) in
+    let same = unless-done (w && h) OtherSize (Ok tt) (after next AfterLast (unless (w && h) OtherSize (Ok tt)) e) in
     record {
-      left = ltb-true _ _ (unless-done next AfterLast (unless (w && h) OtherSize Done) e);
+      left = ltb-true _ _ (unless-done next AfterLast (unless (w && h) OtherSize (Ok tt)) e);
       width = eqb-true _ _ (and_left w h same);
       height = eqb-true _ _ (and_right w h same);
     }
 
 -- it has a column
-pub has_column : (r : Run) (s : SourceSize) → run_reply r s ≡ Done → 0 < macroblocks_of r.size.width
+pub has_column : (r : Run) (s : SourceSize) → run_reply r s ≡ Ok tt → 0 < macroblocks_of r.size.width
 has_column r s e = some_column r.macroblocks (macroblocks_of r.size.width) (macroblocks_of r.size.height) (let_through r s e).left
 
 -- and its next place lies in the source that is handed in
-pub step_inside : (r : Run) (s : SourceSize) → run_reply r s ≡ Done → place_reply s (next_place r) ≡ Done
+pub step_inside : (r : Run) (s : SourceSize) → run_reply r s ≡ Ok tt → place_reply s (next_place r) ≡ Ok tt
 unfolding place_reply
 step_inside r s e =
     let t = let_through r s e in

@@ -2,12 +2,12 @@
 use Rattle.std.proofs.Common.{◌≡◌, ℕ, ◌+◌, ◌*◌, ◌%◌, ◌^◌, ◌<◌, ◌≤◌, List, [], ◌∷◌, length, sym, refl, ap, ◌∙◌, add-zero, add_assoc, mod-lt, mod-eq_of_lt, zero-add, arith}
 use native.Mathlib.Nat.{mod-add-mod}
 use Rattle.basis.proofs.Bounds.{product_le}
-use Rattle.refusal.specs.declared.Reply.{Reply}
-use Rattle.refusal.specs.declared.Reply.TheVariants.{Done, Refused}
-use Rattle.refusal.specs.Reply.{done}
-use Rattle.refusal.proofs.Replies.{not_done}
+use Rattle.std.specs.Prelude.{Result, Ok, Err}
+use Rattle.refusal.specs.declared.Refusal.{Refusal}
+use Rattle.refusal.specs.Reply.{Reply, done, written, value_or}
 use Rattle.record.specs.declared.Record.{Record}
 use Rattle.record.specs.Count.{events_in}
+use Rattle.record.specs.Zero.{no_record}
 use Rattle.plane.specs.declared.SourceSize.{SourceSize}
 use Rattle.plane.specs.Source.{macroblocks_of, source_side_reply}
 use Rattle.plane.proofs.ReadySource.{sides_are}
@@ -72,34 +72,34 @@ adds_more r r' ms m f h a =
 
 -- ---- any sequence of calls
 
--- a step is Done only where the run let it through
-run_done : (w : Reply) (a : Answer) (old : Areas) → (unless_run w a old).coded.reply ≡ Done → w ≡ Done
-run_done Done a old e = refl
-run_done (Refused why) a old e = not_done why e
+-- a step gives a record only where the run let it through
+run_done : (w : Reply) (a : Answer) (old : Areas) (m : Record) → (unless_run w a old).coded ≡ Ok m → w ≡ Ok tt
+run_done (Ok _) a old m e = refl
+run_done (Err why) a old m e = absurd (let z : ◌≡◌ {A = ℕ} 0 1 = cc in omega arith)
 
-step_left : (r : Run) (size : SourceSize) (a : Answer) (old : Areas) → (unless_run (run_reply r size) a old).coded.reply ≡ Done
+step_left : (r : Run) (size : SourceSize) (a : Answer) (old : Areas) (m : Record) → (unless_run (run_reply r size) a old).coded ≡ Ok m
     → r.macroblocks < macroblocks_in r.size
-step_left r size a old e = (let_through r size (run_done (run_reply r size) a old e)).left
+step_left r size a old m e = (let_through r size (run_done (run_reply r size) a old m e)).left
 
--- one step more, by its reply and its record
-abbrev run_by : Run → Reply → Record → Run
-run_by r w m = done w (after r m) r
+-- one step more, by what is answered
+abbrev run_by : Run → Result Record Refusal → Run
+run_by r w = done w (after r (value_or w no_record)) r
 
-adds_step : (r : Run) (cs : List Call) (m : Record) (w : Reply) → Fitting r → (w ≡ Done → r.macroblocks < macroblocks_in r.size)
+adds_step : (r : Run) (cs : List Call) (w : Result Record Refusal) → Fitting r
+    → ((m : Record) → w ≡ Ok m → r.macroblocks < macroblocks_in r.size)
     → ((n : Run) → Fitting n → Adds n (run_after n cs) (records_given n cs))
-    → Adds r (run_after (run_by r w m) cs) (done w (m ∷ records_given (run_by r w m) cs) (records_given (run_by r w m) cs))
-adds_step r cs m Done f h more = adds_more r _ _ m f (h refl) (more (after r m) (fitting_more r m f (h refl)))
-adds_step r cs m (Refused why) f h more = more r f
+    → Adds r (run_after (run_by r w) cs) (written w (λ m. m ∷ records_given (run_by r w) cs) (records_given (run_by r w) cs))
+adds_step r cs (Ok m) f h more = adds_more r _ _ m f (h m refl) (more (after r m) (fitting_more r m f (h m refl)))
+adds_step r cs (Err why) f h more = more r f
 
 adds : (cs : List Call) (r : Run) → Fitting r → Adds r (run_after r cs) (records_given r cs)
 unfolding step_of predicted_step_of
 adds [] r f = adds_none r f
 adds (Step q ∷ cs) r f =
-    let a = step_answer r (asked r q) in
-    adds_step r cs a.coded.«record» a.coded.reply f (step_left r q.size (answer_of (asked r q)) q.areas) (adds cs)
+    adds_step r cs (step_answer r (asked r q)).coded f (step_left r q.size (answer_of (asked r q)) q.areas) (adds cs)
 adds (StepPredicted n ∷ cs) r f =
-    let a = predicted_step_answer r (predicted_asked r n) in
-    adds_step r cs a.coded.«record» a.coded.reply f (step_left r n.size (predicted_answer_of (predicted_asked r n)) n.areas) (adds cs)
+    adds_step r cs (predicted_step_answer r (predicted_asked r n)).coded f
+    (step_left r n.size (predicted_answer_of (predicted_asked r n)) n.areas) (adds cs)
 adds (Close ∷ cs) r f = adds cs r f
 
 -- ---- from an opening on nothing wraps
@@ -112,14 +112,14 @@ sums_small : (ms : List Record) → InTypes ms → sums_over ms ≤ 4294967295 *
 sums_small [] t = omega arith
 sums_small (m ∷ ms) t = let l = sums_small ms t.1 in omega arith
 
-covered_by : (s : SourceSize) → source_side_reply s ≡ Done → macroblocks_in s ≤ 65536
+covered_by : (s : SourceSize) → source_side_reply s ≡ Ok tt → macroblocks_in s ≤ 65536
 covered_by s e =
     let w : macroblocks_of s.width ≤ 256 = omega (arith, (sides_are s e).high_w) in
     let h : macroblocks_of s.height ≤ 256 = omega (arith, (sides_are s e).high_h) in
     product_le w h
 
 -- For the reader: THE LAW
-pub totalled : (s : SourceSize) → source_side_reply s ≡ Done → (cs : List Call) → InTypes (records_given (fresh_run s) cs) → Totalled s cs
+pub totalled : (s : SourceSize) → source_side_reply s ≡ Ok tt → (cs : List Call) → InTypes (records_given (fresh_run s) cs) → Totalled s cs
 totalled s e cs t =
     let ms = records_given (fresh_run s) cs in
     let most = covered_by s e in

@@ -1,6 +1,6 @@
 -- Any sequence of calls on a run from its opening, refused ones among them, and the law of its totals.
 use Rattle.std.specs.Prelude.{◌≡◌, ℕ, ◌+◌, ◌^◌, ◌<◌, ◌≤◌, List, [], ◌∷◌, length}
-use Rattle.refusal.specs.Reply.{done}
+use Rattle.refusal.specs.Reply.{written}
 use Rattle.record.specs.declared.Record.{Record}
 use Rattle.record.specs.Count.{events_in}
 use Rattle.plane.specs.declared.SourceSize.{SourceSize}
@@ -64,7 +64,7 @@ run_after r (Close ∷ cs) = run_after r cs
 
 -- the record of an answer that is not a refusal, before others
 abbrev pub given : Answer → List Record → List Record
-given a ms = done a.coded.reply (a.coded.«record» ∷ ms) ms
+given a ms = written a.coded (λ m. m ∷ ms) ms
 
 -- the records given
 abbrev pub records_given : Run → List Call → List Record

@@ -1,25 +1,23 @@
 -- A picture's run (rules U1 to U6) as a machine on values, and what turns it back because of the run (rules F21 to F23, U4):
 -- 21, 22, 23.
-use Rattle.std.specs.Prelude.{ℕ, ◌+◌, ◌*◌, ◌/◌, ◌%◌, ◌^◌, ◌&&◌, List, ℤ, ◌==◌, nat_le, nat_lt}
+use Rattle.refusal.specs.declared.Refusal.{Refusal}
+use Rattle.macroblock.specs.Demand.{record_in}
+use Rattle.std.specs.Prelude.{ℕ, ◌+◌, ◌*◌, ◌/◌, ◌%◌, ◌^◌, ◌&&◌, List, ℤ, ◌==◌, nat_le, nat_lt, Result}
 use Rattle.refusal.specs.declared.Refusal.TheVariants.{AfterLast, OtherSize, BeforeLast}
-use Rattle.refusal.specs.declared.Reply.{Reply}
-use Rattle.refusal.specs.declared.Reply.TheVariants.{Done, Refused}
+use Rattle.refusal.specs.Reply.{Reply, answer}
+use Rattle.std.specs.Prelude.{Ok, Err}
 use Rattle.refusal.specs.Reply.{unless, done}
 use Rattle.record.specs.declared.Record.{Record}
 use Rattle.record.specs.Count.{events_in}
-use Rattle.record.specs.Zero.{no_record}
 use Rattle.plane.specs.declared.SourceSize.{SourceSize}
 use Rattle.plane.specs.declared.MacroblockPlace.{MacroblockPlace}
 use Rattle.plane.specs.Source.{macroblocks_of, source_side_reply}
-use Rattle.reader.specs.Handed.{Areas, areas}
+use Rattle.reader.specs.Handed.{Areas}
 use Rattle.macroblock.specs.Request.{Request}
-use Rattle.macroblock.specs.Answer.{Answer, answer_of}
+use Rattle.macroblock.specs.Answer.{Answer, answer_of, answered}
 use Rattle.macroblock.specs.Predicted.{PredictedRequest, predicted_answer_of}
 use Rattle.picture.specs.declared.Run.{Run}
-use Rattle.picture.specs.declared.Opened.{Opened}
-use Rattle.picture.specs.declared.Stepped.{Stepped}
 use Rattle.picture.specs.declared.Totals.{Totals}
-use Rattle.picture.specs.declared.Closed.{Closed}
 
 -- how many macroblocks cover a picture
 abbrev pub macroblocks_in : SourceSize → ℕ
@@ -31,12 +29,9 @@ macroblocks_in s = macroblocks_of s.width * macroblocks_of s.height
 abbrev pub fresh_run : SourceSize → Run
 fresh_run s = record { size = s; macroblocks = 0; events = 0; sums = 0 }
 
-abbrev pub no_run : Run
-no_run = fresh_run (record { width = 0; height = 0 })
-
 -- 6
-unfoldable pub open_of : SourceSize → Opened
-open_of s = record { reply = source_side_reply s; run = done (source_side_reply s) (fresh_run s) no_run }
+unfoldable pub open_of : SourceSize → Result Run Refusal
+open_of s = answer (source_side_reply s) (fresh_run s)
 
 -- ---- a step
 
@@ -52,7 +47,7 @@ next_place r =
 unfoldable pub run_reply : Run → SourceSize → Reply
 run_reply r s =
     unless (nat_lt r.macroblocks (macroblocks_in r.size)) AfterLast
-    (unless (r.size.width == s.width && r.size.height == s.height) OtherSize Done)
+    (unless (r.size.width == s.width && r.size.height == s.height) OtherSize (Ok tt))
 
 -- the run with one record more; its numbers are of 64 bits
 abbrev pub after : Run → Record → Run
@@ -64,26 +59,22 @@ after r m =
       sums = (r.sums + m.sum) % 2 ^ 64;
     }
 
--- turned back because of the run, the record is all 0 and the areas are as they were; else the answer is the entry's
+-- turned back because of the run, the areas are as they were; else the answer is the entry's
 abbrev pub unless_run : Reply → Answer → Areas → Answer
-unless_run Done a old = a
-unless_run (Refused why) a old = record { coded = record { reply = Refused why; «record» = no_record }; areas = old }
+unless_run (Ok _) a old = a
+unless_run (Err why) a old = record { coded = Err why; areas = old }
 
 -- what a step gives back: an answer of the entry's kind, and the run
 pub record StepAnswer : Type 0 where
   pub answer : Answer
   pub run : Run
 
-abbrev pub stepped_to : Stepped → List ℕ → List ℕ → List ℤ → StepAnswer
-stepped_to s lasts runs levels =
-    record {
-      answer = record { coded = record { reply = s.reply; «record» = s.«record» }; areas = areas lasts runs levels };
-      run = s.run;
-    }
+abbrev pub stepped_to : Result Record Refusal → Run → List ℕ → List ℕ → List ℤ → StepAnswer
+stepped_to coded run lasts runs levels = record { answer = answered coded lasts runs levels; run = run }
 
 -- after an answer; refused, the run is as it went in
 abbrev pub step_to : Run → Answer → StepAnswer
-step_to r a = record { answer = a; run = done a.coded.reply (after r a.coded.«record») r }
+step_to r a = record { answer = a; run = done a.coded (after r (record_in a)) r }
 
 -- the answer to a request for the run's next place
 abbrev pub step_answer : Run → Request → Answer
@@ -104,12 +95,9 @@ predicted_step_of r n = step_to r (predicted_step_answer r n)
 abbrev pub totals_of : Run → Totals
 totals_of r = record { macroblocks = r.macroblocks; events = r.events; sums = r.sums }
 
-abbrev pub no_totals : Totals
-no_totals = totals_of no_run
-
 -- 23: before the last macroblock
 unfoldable pub close_reply : Run → Reply
-close_reply r = unless (nat_le (macroblocks_in r.size) r.macroblocks) BeforeLast Done
+close_reply r = unless (nat_le (macroblocks_in r.size) r.macroblocks) BeforeLast (Ok tt)
 
-unfoldable pub close_of : Run → Closed
-close_of r = record { reply = close_reply r; totals = done (close_reply r) (totals_of r) no_totals }
+unfoldable pub close_of : Run → Result Totals Refusal
+close_of r = answer (close_reply r) (totals_of r)

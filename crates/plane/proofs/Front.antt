@@ -3,10 +3,8 @@ use Prim.Native.Nat.{ℕ, ◌+◌, ◌-◌, ◌≤◌}
 use native.Mathlib.Omega.{arith}
 use mathlib.Core.Path.{◌≡◌, sym, ap, ap₂, ◌∙◌}
 use mathlib.Core.List.{List, ◌++◌, append_assoc}
-use lib.ListN.{length, take, drop, length-append, length-drop, take-append-drop}
+use lib.ListN.{length, take, drop, length-drop, take-append-drop}
 use lib.Seq.{length-take-le, take_all, take_at, drop_at, take-append-le, take-take, take-add, drop-drop}
-use Rattle.basis.specs.Lists.{tabulate}
-use Rattle.basis.proofs.Lists.{length-tabulate}
 use Rattle.basis.proofs.Slices.{part_count, part_is, put_rest}
 
 -- the first n entries of a list, and then what stood in the other
@@ -37,14 +35,3 @@ front_end from l out y a last h k p q =
   where
     within : last ≤ length (take a from)
     within = omega (arith, length-take-le a from k)
-
--- a first part that was written as n entries of f
-module _ (y rest : List ℕ) (n : ℕ) (f : ℕ → ℕ) (e : y ≡ tabulate n f) where
-  pub front_told : take n (y ++ rest) ≡ tabulate n f
-  front_told = take_at y rest n (ap length e ∙ length-tabulate n f) ∙ e
-
-  pub front_length : length (take n (y ++ rest)) ≡ n
-  front_length = ap length front_told ∙ length-tabulate n f
-
-  pub front_fits : n ≤ length (y ++ rest)
-  front_fits = omega (arith, length-append y rest, ap length e, length-tabulate n f)

@@ -5,12 +5,7 @@ use native.Mathlib.Nat.{mul-le-mul_right}
 use mathlib.Core.Path.{◌≡◌, ap, ap₂, ◌∙◌}
 use lib.IntN.{ℤ, pos}
 use lib.ListN.{length, get_or}
-use mathlib.Core.Bool.{true}
-use lib.Dec.{eqb, leb}
-use borrow.Author.Tests.{eqb-true, leb-true}
-use Rattle.basis.specs.Parts.{above, below}
-use Rattle.refusal.proofs.Tests.{and_left, and_right}
-use Rattle.plane.specs.Plane.{Plane, clamp_to, sample_at, columns_inside}
+use Rattle.plane.specs.Plane.{Plane, clamp_to, sample_at}
 use Rattle.plane.specs.ToldHeld.{Held}
 
 -- row r, column c is within the samples
@@ -31,11 +26,3 @@ sample_inside p x y c r e f hc hr =
   where
     stays : (n size : ℕ) → n < size → clamp_to size (pos n) ≡ n
     stays n size h = omega arith
-
--- columns that are all inside start at or after 0, and end within the width
-module _ (x : ℤ) (w width : ℕ) (e : columns_inside x w width ≡ true) where
-  pub inside_starts : below x ≡ 0
-  inside_starts = eqb-true (below x) 0 (and_left (eqb (below x) 0) (leb (above x + w) width) e)
-
-  pub inside_ends : above x + w ≤ width
-  inside_ends = leb-true (above x + w) width (and_right (eqb (below x) 0) (leb (above x + w) width) e)

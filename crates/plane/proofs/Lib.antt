@@ -1,7 +1,6 @@
 pub mod Copied
 pub mod Front
 pub mod Inside
-pub mod LastByte
 pub mod Moved
 pub mod Ready
 pub mod ReadySource

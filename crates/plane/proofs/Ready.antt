@@ -10,8 +10,8 @@ use lib.ListN.{length}
 use borrow.Author.Tests.{ltb-true, lt-ltb, eqb-true, eq-eqb}
 use Rattle.basis.proofs.Bounds.{product_le}
 use Rattle.refusal.specs.declared.Refusal.TheVariants.{ReferenceSize, ReferenceBytes, Place, Length, Choice}
-use Rattle.refusal.specs.declared.Reply.{Reply}
-use Rattle.refusal.specs.declared.Reply.TheVariants.{Done}
+use Rattle.refusal.specs.Reply.{Reply}
+use Rattle.std.specs.Prelude.{Ok}
 use Rattle.refusal.specs.Reply.{unless, and_then}
 use Rattle.refusal.specs.Test.{between, in_range}
 use Rattle.refusal.proofs.Replies.{first_done, then_done, both_done, unless-done}
@@ -57,57 +57,57 @@ pub record Usable (s : List ℕ) (g : Geometry) : Type 0 where
   pub within : Sized g
   pub hold : Held (plane_of s g)
 
-pub usable : (s : List ℕ) (g : Geometry) → reference_reply g (length s) ≡ Done → Usable s g
+pub usable : (s : List ℕ) (g : Geometry) → reference_reply g (length s) ≡ Ok tt → Usable s g
 unfolding reference_reply reference_size_reply reference_bytes_reply
 usable s g e =
     let last = (g.height - 1) * g.stride + (g.width - 1) in
     let b = then_done (reference_size_reply g) (reference_bytes_reply g (length s)) e in
-    let z = sized_is g (unless-done (sized g) ReferenceSize Done (first_done (reference_size_reply g) (reference_bytes_reply g (length s)) e)) in
+    let z = sized_is g (unless-done (sized g) ReferenceSize (Ok tt) (first_done (reference_size_reply g) (reference_bytes_reply g (length s)) e)) in
     record {
       within = z;
-      hold = record { wide = z.low_w; high = z.low_h; last = ltb-true last (length s) (unless-done (ltb last (length s)) ReferenceBytes Done b) };
+      hold = record { wide = z.low_w; high = z.low_h; last = ltb-true last (length s) (unless-done (ltb last (length s)) ReferenceBytes (Ok tt) b) };
     }
 
-pub length_is : (area w h : ℕ) → length_reply area w h ≡ Done → area ≡ w * h
+pub length_is : (area w h : ℕ) → length_reply area w h ≡ Ok tt → area ≡ w * h
 unfolding length_reply
-length_is area w h e = eqb-true area (w * h) (unless-done (eqb area (w * h)) Length Done e)
+length_is area w h e = eqb-true area (w * h) (unless-done (eqb area (w * h)) Length (Ok tt) e)
 
-pub length-done : (area w h : ℕ) → area ≡ w * h → length_reply area w h ≡ Done
+pub length-done : (area w h : ℕ) → area ≡ w * h → length_reply area w h ≡ Ok tt
 unfolding length_reply
-length-done area w h e = ap (λ (t : Bool). unless t Length Done) (eq-eqb area (w * h) e)
+length-done area w h e = ap (λ (t : Bool). unless t Length (Ok tt)) (eq-eqb area (w * h) e)
 
-pub same_done : (n area : ℕ) → n ≡ area → same_reply n area ≡ Done
-same_done n area e = ap (λ (t : Bool). unless t Length Done) (eq-eqb n area e)
+pub same_done : (n area : ℕ) → n ≡ area → same_reply n area ≡ Ok tt
+same_done n area e = ap (λ (t : Bool). unless t Length (Ok tt)) (eq-eqb n area e)
 
 -- a copy of a reference that is usable, into an area that fits
-pub copy_done : (g : Geometry) (bytes w h area : ℕ) → reference_reply g bytes ≡ Done → area ≡ w * h → copy_reply g bytes w h area ≡ Done
+pub copy_done : (g : Geometry) (bytes w h area : ℕ) → reference_reply g bytes ≡ Ok tt → area ≡ w * h → copy_reply g bytes w h area ≡ Ok tt
 unfolding copy_reply
 copy_done g bytes w h area e f = ap (λ (r : Reply). and_then r (length_reply area w h)) e ∙ length-done area w h f
 
 -- an interpolation whose parts are in range
-pub block_done : (g : Geometry) (bytes : ℕ) (v : MotionVector) (s : Site) (area : ℕ) → reference_reply g bytes ≡ Done → motion_reply v s.corner ≡ Done
-    → area ≡ s.width * s.height → is_side s.width ≡ true → is_side s.height ≡ true → block_reply g bytes v s area ≡ Done
+pub block_done : (g : Geometry) (bytes : ℕ) (v : MotionVector) (s : Site) (area : ℕ) → reference_reply g bytes ≡ Ok tt → motion_reply v s.corner ≡ Ok tt
+    → area ≡ s.width * s.height → is_side s.width ≡ true → is_side s.height ≡ true → block_reply g bytes v s area ≡ Ok tt
 unfolding block_reply side_reply
 block_done g bytes v s area e f k p q =
     let w = s.width in
     let h = s.height in
-    both_done e (both_done f (both_done (length-done area w h k) (ap₂ (λ (t u : Bool). unless (t && u) Choice Done) p q)))
+    both_done e (both_done f (both_done (length-done area w h k) (ap₂ (λ (t u : Bool). unless (t && u) Choice (Ok tt)) p q)))
 
 -- sizes in bounds and samples enough
-pub reference_done : (g : Geometry) (bytes : ℕ) → sized g ≡ true → (g.height - 1) * g.stride + (g.width - 1) < bytes → reference_reply g bytes ≡ Done
+pub reference_done : (g : Geometry) (bytes : ℕ) → sized g ≡ true → (g.height - 1) * g.stride + (g.width - 1) < bytes → reference_reply g bytes ≡ Ok tt
 unfolding reference_reply reference_size_reply reference_bytes_reply
 reference_done g bytes e h =
-    ap₂ (λ (s t : Bool). and_then (unless s ReferenceSize Done) (unless t ReferenceBytes Done)) e (lt-ltb ((g.height - 1) * g.stride + (g.width - 1)) bytes h)
+    ap₂ (λ (s t : Bool). and_then (unless s ReferenceSize (Ok tt)) (unless t ReferenceBytes (Ok tt))) e (lt-ltb ((g.height - 1) * g.stride + (g.width - 1)) bytes h)
 
 -- an origin and a vector in range
-pub motion_done : (v : MotionVector) (o : Point) → origin_in_range o ≡ true → vector_in_range v ≡ true → motion_reply v o ≡ Done
+pub motion_done : (v : MotionVector) (o : Point) → origin_in_range o ≡ true → vector_in_range v ≡ true → motion_reply v o ≡ Ok tt
 unfolding motion_reply
-motion_done v o e f = ap₂ (λ (s t : Bool). unless (s && t) Place Done) e f
+motion_done v o e f = ap₂ (λ (s t : Bool). unless (s && t) Place (Ok tt)) e f
 
 -- a motion that is not refused starts in range
-pub origin_ready : (v : MotionVector) (o : Point) → motion_reply v o ≡ Done → origin_in_range o ≡ true
+pub origin_ready : (v : MotionVector) (o : Point) → motion_reply v o ≡ Ok tt → origin_in_range o ≡ true
 unfolding motion_reply
-origin_ready v o e = and_left (origin_in_range o) (vector_in_range v) (unless-done (origin_in_range o && vector_in_range v) Place Done e)
+origin_ready v o e = and_left (origin_in_range o) (vector_in_range v) (unless-done (origin_in_range o && vector_in_range v) Place (Ok tt) e)
 
 -- a block side is 8 or 16
 pub record Side (n : ℕ) : Type 0 where
@@ -122,7 +122,7 @@ side_is n e =
 
 -- each test of an interpolation has passed
 pub record BlockReady (l : List ℕ) (g : Geometry) (v : MotionVector) (s : Site) (area : ℕ) : Type 0 where
-  pub reference : reference_reply g (length l) ≡ Done
+  pub reference : reference_reply g (length l) ≡ Ok tt
   pub corner_x : in_range (negsuc 4095) (pos 4096) s.corner.x ≡ true
   pub corner_y : in_range (negsuc 4095) (pos 4096) s.corner.y ≡ true
   pub vector_x : in_range (negsuc 2047) (pos 2047) v.x ≡ true
@@ -131,7 +131,7 @@ pub record BlockReady (l : List ℕ) (g : Geometry) (v : MotionVector) (s : Site
   pub side_w : Side s.width
   pub side_h : Side s.height
 
-pub block_ready : (l : List ℕ) (g : Geometry) (v : MotionVector) (s : Site) (area : ℕ) → block_reply g (length l) v s area ≡ Done → BlockReady l g v s area
+pub block_ready : (l : List ℕ) (g : Geometry) (v : MotionVector) (s : Site) (area : ℕ) → block_reply g (length l) v s area ≡ Ok tt → BlockReady l g v s area
 unfolding block_reply motion_reply side_reply
 block_ready l g v s area e =
     let o = s.corner in
@@ -142,10 +142,10 @@ block_ready l g v s area e =
     let n = length_reply area w h in
     let e1 = then_done r (and_then m (and_then n (side_reply w h))) e in
     let e2 = then_done m (and_then n (side_reply w h)) e1 in
-    let moved = unless-done (origin_in_range o && vector_in_range v) Place Done (first_done m (and_then n (side_reply w h)) e1) in
+    let moved = unless-done (origin_in_range o && vector_in_range v) Place (Ok tt) (first_done m (and_then n (side_reply w h)) e1) in
     let at = and_left (origin_in_range o) (vector_in_range v) moved in
     let by = and_right (origin_in_range o) (vector_in_range v) moved in
-    let sides = unless-done (is_side w && is_side h) Choice Done (then_done n (side_reply w h) e2) in
+    let sides = unless-done (is_side w && is_side h) Choice (Ok tt) (then_done n (side_reply w h) e2) in
     record {
       reference = first_done r (and_then m (and_then n (side_reply w h))) e;
       corner_x = and_left (in_range (negsuc 4095) (pos 4096) o.x) (in_range (negsuc 4095) (pos 4096) o.y) at;

@@ -1,14 +1,14 @@
 -- Rows of a plane, as the code copies them. Assumes nothing.
 use Prim.Native.Nat.{ℕ, ◌+◌, ◌-◌, ◌*◌, ◌<◌, ◌≤◌, min}
 use native.Mathlib.Omega.{arith}
-use mathlib.Core.Path.{◌≡◌, refl, sym, ap, ap₂, ◌∙◌}
+use mathlib.Core.Path.{◌≡◌, refl, sym, ap, ◌∙◌}
 use mathlib.Core.List.{List, ◌++◌}
-use lib.IntN.{ℤ, pos, negsuc, ◌+ℤ◌, ◌-ℤ◌}
+use lib.IntN.{ℤ, pos, ◌+ℤ◌}
 use lib.ListN.{length, get_or, take, drop}
 use Rattle.basis.specs.Parts.{above, below}
 use Rattle.basis.specs.Lists.{tabulate}
 use Rattle.basis.proofs.Lists.{tabulate_two, get_or-tabulate}
-use Rattle.basis.proofs.Parts.{sides, above-add, above-sub, below_sub}
+use Rattle.basis.proofs.Parts.{sides, above-add}
 use Rattle.basis.proofs.Slices.{part_is, part_at, part_length, part_tabulate}
 use Rattle.plane.specs.Plane.{Plane, clamp_to, sample_at}
 use Rattle.plane.specs.ToldHeld.{Held, clamped_in, column_at, ColumnsIn}
@@ -35,13 +35,6 @@ past_last row a m n e h =
 
     place : (i : ℕ) → length row - 1 ≡ clamp_to (length row) (pos a +ℤ pos (m + i))
     place i = omega arith
-
--- how many of n samples from column x on come before the row, as the code's `-1 - x` and 1 count them
-pub count_before : (x : ℤ) (n : ℕ) → clamp_to (n + 1) (negsuc 0 -ℤ x +ℤ pos 1) ≡ min (below x) n
-count_before x n = ap₂ min far (omega arith)
-  where
-    far : above (negsuc 0 -ℤ x +ℤ pos 1) ≡ below x
-    far = above-add (negsuc 0 -ℤ x) (pos 1) ∙ omega (arith, above-sub (negsuc 0) x, below_sub (negsuc 0) x, sides x)
 
 -- where they are b: the row's first sample for each, and then as from its own column a on
 module _ (row : List ℕ) (x : ℤ) (n b a : ℕ) (eb : b ≡ min (below x) n) (ea : a ≡ clamp_to (length row) x) where

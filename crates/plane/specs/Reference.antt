@@ -1,16 +1,15 @@
 -- What turns an interpolation back, in its order (rules F4, F5, F8, F12, F14, O2, O3).
-use Rattle.std.specs.Prelude.{ℕ, ◌+◌, ◌-◌, ◌*◌, Bool, ◌&&◌, ◌||◌, List, ltb, eqb, ℤ, pos, negsuc, length}
+use Rattle.refusal.specs.declared.Refusal.{Refusal}
+use Rattle.std.specs.Prelude.{ℕ, ◌+◌, ◌-◌, ◌*◌, Bool, ◌&&◌, ◌||◌, List, ltb, eqb, ℤ, pos, negsuc, length, Result}
 use Rattle.refusal.specs.declared.Refusal.TheVariants.{ReferenceSize, ReferenceBytes, Place, Length, Choice}
-use Rattle.refusal.specs.declared.Reply.{Reply}
-use Rattle.refusal.specs.declared.Reply.TheVariants.{Done, Refused}
+use Rattle.refusal.specs.Reply.{Reply, answer}
+use Rattle.std.specs.Prelude.{Ok}
 use Rattle.refusal.specs.Reply.{unless, and_then}
 use Rattle.refusal.specs.Test.{between, in_range}
 use Rattle.record.specs.declared.MotionVector.{MotionVector}
 use Rattle.plane.specs.declared.Geometry.{Geometry}
 use Rattle.plane.specs.declared.Point.{Point}
 use Rattle.plane.specs.declared.Site.{Site}
-use Rattle.plane.specs.declared.Fetched.{Fetched}
-use Rattle.plane.specs.declared.Fetched.TheVariants.{Sample, Refused as NoSample}
 use Rattle.plane.specs.Plane.{plane_of, sample_at}
 
 -- width and height 1..4,096, stride from width to 8,192
@@ -19,11 +18,11 @@ sized g = between 1 4096 g.width && (between 1 4096 g.height && between g.width 
 
 -- 4: sizes outside bounds
 unfoldable pub reference_size_reply : Geometry → Reply
-reference_size_reply g = unless (sized g) ReferenceSize Done
+reference_size_reply g = unless (sized g) ReferenceSize (Ok tt)
 
 -- 5: bytes at most (height - 1) * stride + width - 1
 unfoldable pub reference_bytes_reply : Geometry → ℕ → Reply
-reference_bytes_reply g bytes = unless (ltb ((g.height - 1) * g.stride + (g.width - 1)) bytes) ReferenceBytes Done
+reference_bytes_reply g bytes = unless (ltb ((g.height - 1) * g.stride + (g.width - 1)) bytes) ReferenceBytes (Ok tt)
 
 -- 4, 5
 unfoldable pub reference_reply : Geometry → ℕ → Reply
@@ -37,18 +36,18 @@ vector_in_range v = in_range (negsuc 2047) (pos 2047) v.x && in_range (negsuc 20
 
 -- 8, for interpolation: origin outside -4,096..4,096 or vector outside -2,048..2,047
 unfoldable pub motion_reply : MotionVector → Point → Reply
-motion_reply v o = unless (origin_in_range o && vector_in_range v) Place Done
+motion_reply v o = unless (origin_in_range o && vector_in_range v) Place (Ok tt)
 
 -- 12: an area that is not w times h long
 unfoldable pub length_reply : ℕ → ℕ → ℕ → Reply
-length_reply area w h = unless (eqb area (w * h)) Length Done
+length_reply area w h = unless (eqb area (w * h)) Length (Ok tt)
 
 abbrev pub is_side : ℕ → Bool
 is_side n = eqb n 8 || eqb n 16
 
 -- 14: a block side that is not 8 or 16
 unfoldable pub side_reply : ℕ → ℕ → Reply
-side_reply w h = unless (is_side w && is_side h) Choice Done
+side_reply w h = unless (is_side w && is_side h) Choice (Ok tt)
 
 -- 4, 5, 8, 12, 14
 unfoldable pub block_reply : Geometry → ℕ → MotionVector → Site → ℕ → Reply
@@ -63,12 +62,8 @@ copy_reply g bytes w h area = and_then (reference_reply g bytes) (length_reply a
 
 -- 12: an area that is not n long
 abbrev pub same_reply : ℕ → ℕ → Reply
-same_reply n area = unless (eqb n area) Length Done
+same_reply n area = unless (eqb n area) Length (Ok tt)
 
 -- a sample, or why there is none
-abbrev pub sample_or : Reply → ℕ → Fetched
-sample_or Done v = Sample v
-sample_or (Refused r) v = NoSample r
-
-abbrev pub fetched : List ℕ → Geometry → ℤ → ℤ → Fetched
-fetched s g x y = sample_or (reference_reply g (length s)) (sample_at (plane_of s g) x y)
+abbrev pub fetched : List ℕ → Geometry → ℤ → ℤ → Result ℕ Refusal
+fetched s g x y = answer (reference_reply g (length s)) (sample_at (plane_of s g) x y)

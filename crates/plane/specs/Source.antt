@@ -2,8 +2,8 @@
 use Rattle.std.specs.Prelude.{ℕ, ◌+◌, ◌*◌, ◌/◌, ◌%◌, Bool, ◌&&◌, List, leb, ltb, get_or}
 use Rattle.basis.specs.Lists.{raster}
 use Rattle.refusal.specs.declared.Refusal.TheVariants.{SourceSide, SourcePlane, Place}
-use Rattle.refusal.specs.declared.Reply.{Reply}
-use Rattle.refusal.specs.declared.Reply.TheVariants.{Done}
+use Rattle.refusal.specs.Reply.{Reply}
+use Rattle.std.specs.Prelude.{Ok}
 use Rattle.refusal.specs.Reply.{unless, and_then}
 use Rattle.refusal.specs.Test.{between}
 use Rattle.plane.specs.declared.SourceSize.{SourceSize}
@@ -25,7 +25,7 @@ packed samples s = record { samples = samples; width = s.width; height = s.heigh
 
 -- 6: a side not 1..4,096
 unfoldable pub source_side_reply : SourceSize → Reply
-source_side_reply s = unless (between 1 4096 s.width && between 1 4096 s.height) SourceSide Done
+source_side_reply s = unless (between 1 4096 s.width && between 1 4096 s.height) SourceSide (Ok tt)
 
 -- whether a plane of n samples is at least as long as its width times its height
 abbrev pub holds : SourceSize → ℕ → Bool
@@ -37,7 +37,7 @@ macroblocks_of side = (side + 15) / 16
 
 -- 8: a column or row at or above the source's side over 16, rounded up
 unfoldable pub place_reply : SourceSize → MacroblockPlace → Reply
-place_reply s at = unless (ltb at.column (macroblocks_of s.width) && ltb at.row (macroblocks_of s.height)) Place Done
+place_reply s at = unless (ltb at.column (macroblocks_of s.width) && ltb at.row (macroblocks_of s.height)) Place (Ok tt)
 
 -- 6, 7, 8 where luma alone is handed in, where one chroma plane is, and where all three are
 unfoldable pub source_luma_reply : SourceSize → ℕ → MacroblockPlace → Reply

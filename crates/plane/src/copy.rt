@@ -7,6 +7,7 @@ ghost use Rattle.plane.specs.ToldHeld.{Held, clamped_in, column_at, gathered, Co
 
 use crate::{Geometry, Point, straight};
 
+#[tactic(auto, unfolding(crate::specs::Plane::sample_at))]
 pub fn sample(samples: &[u8], geometry: Geometry, x: i32, y: i32) -> u8
     requires { Held (plane_of samples.now geometry) }
     ensures { result ≡ sample_at (plane_of samples.now geometry) x y }
@@ -14,14 +15,6 @@ pub fn sample(samples: &[u8], geometry: Geometry, x: i32, y: i32) -> u8
     let column = crate::clamp_coordinate(x, 0, geometry.width);
     let row = crate::clamp_coordinate(y, 0, geometry.height);
     samples[row * geometry.stride + column]
-}
-
-fn fill(sample: u8, out: &mut [u8])
-    ensures { out.new ≡ tabulate (length out.old) (λ _. sample) }
-{
-    for i in 0..out.len() {
-        out[i] = sample;
-    }
 }
 
 // Samples of a row from one of its own columns on, its last for each that would come after it.
@@ -36,18 +29,18 @@ fn copy_from(row: &[u8], at: usize, out: &mut [u8])
         return;
     }
     straight::copy_straight(&row[at..], &mut out[..inside]);
-    fill(row[row.len() - 1], &mut out[inside..]);
+    out[inside..].fill(row[row.len() - 1]);
 }
 
 // Samples of a row from column x on, its first for each that would come before it. Each part is filled or copied whole, so that a
-// row which crosses an edge costs no test for each sample. -1 - x fits an i32 where -x may not.
+// row which crosses an edge costs no test for each sample.
 fn copy_row(row: &[u8], x: i32, out: &mut [u8])
     requires { 0 < length row.now }
     ensures { out.new ≡ tabulate (length out.old) (clamped_in row.now x) }
 {
-    let left = crate::clamp_coordinate(-1 - x, 1, out.len() + 1);
-    let at = crate::clamp_coordinate(x, 0, row.len());
-    fill(row[0], &mut out[..left]);
+    let left = (x.min(0).unsigned_abs() as usize).min(out.len());
+    let at = (x.max(0) as usize).min(row.len() - 1);
+    out[..left].fill(row[0]);
     copy_from(row, at, &mut out[left..]);
 }
 

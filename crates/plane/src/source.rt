@@ -1,5 +1,5 @@
 // The source picture of a macroblock: what its sizes, planes and place are refused for (6, 7, 8), and its blocks.
-// Nothing here adds or multiplies sizes that are not yet known to be small, so every refusal is judged for any numbers.
+// Sizes that are not yet known to be small are never added, and multiplied only with a check, so every refusal is judged for any numbers.
 ghost use Rattle.std.specs.Prelude.{◌≡◌, length};
 ghost use Rattle.refusal.specs.Reply.{done};
 ghost use Rattle.plane.specs.Plane.{copied_block};
@@ -37,64 +37,55 @@ pub fn macroblocks(side: usize) -> usize
 fn holds(size: SourceSize, n: usize) -> bool
     ensures { result ≡ holds size n }
 {
-    if size.width == 0 {
-        return true;
-    }
-    size.height <= n / size.width
+    size.width
+        .checked_mul(size.height)
+        .is_some_and(|area| area <= n)
 }
 
 // 6
+#[tactic(auto, unfolding(crate::specs::Source::source_side_reply))]
 pub fn source_side_reply(size: SourceSize) -> Reply
     ensures { result ≡ source_side_reply size }
 {
-    refusal::unless(
-        refusal::both(
-            refusal::between(1, 4096, size.width),
-            refusal::between(1, 4096, size.height),
-        ),
+    refusal::require(
+        (1..=4096).contains(&size.width) && (1..=4096).contains(&size.height),
         Refusal::SourceSide,
-        Reply::Done,
     )
 }
 
 // 8
+#[tactic(auto, unfolding(crate::specs::Source::place_reply))]
 fn place_reply(size: SourceSize, place: MacroblockPlace) -> Reply
     ensures { result ≡ place_reply size place }
 {
-    let columns = macroblocks(size.width);
-    let rows = macroblocks(size.height);
-    refusal::unless(
-        refusal::both(place.column < columns, place.row < rows),
+    refusal::require(
+        place.column < macroblocks(size.width) && place.row < macroblocks(size.height),
         Refusal::Place,
-        Reply::Done,
     )
 }
 
 // 6, 7 for luma alone, 8.
+#[tactic(auto, unfolding(crate::specs::Source::source_luma_reply))]
 pub fn luma_reply(size: SourceSize, y: usize, place: MacroblockPlace) -> Reply
     ensures { result ≡ source_luma_reply size y place }
 {
-    let last = refusal::unless(
-        holds(size, y),
-        Refusal::SourcePlane,
-        place_reply(size, place),
-    );
-    refusal::and_then(source_side_reply(size), last)
+    source_side_reply(size)?;
+    refusal::require(holds(size, y), Refusal::SourcePlane)?;
+    place_reply(size, place)
 }
 
 // 6, 7 for one chroma plane, 8.
+#[tactic(auto, unfolding(crate::specs::Source::source_chroma_reply))]
 pub fn chroma_reply(size: SourceSize, chroma: usize, place: MacroblockPlace) -> Reply
     ensures { result ≡ source_chroma_reply size chroma place }
 {
-    let last = refusal::unless(
-        holds(chroma_size(size), chroma),
-        Refusal::SourcePlane,
-        place_reply(size, place),
-    );
-    refusal::and_then(source_side_reply(size), last)
+    source_side_reply(size)?;
+    refusal::require(holds(chroma_size(size), chroma), Refusal::SourcePlane)?;
+    place_reply(size, place)
 }
 
 // 6, 7 for all three planes, 8.
+#[tactic(auto, unfolding(crate::specs::Source::source_reply))]
 pub fn source_reply(
     size: SourceSize,
     y: usize,
@@ -105,12 +96,12 @@ pub fn source_reply(
     ensures { result ≡ source_reply size y cb cr place }
 {
     let small = chroma_size(size);
-    let planes = refusal::both(
-        holds(size, y),
-        refusal::both(holds(small, cb), holds(small, cr)),
-    );
-    let last = refusal::unless(planes, Refusal::SourcePlane, place_reply(size, place));
-    refusal::and_then(source_side_reply(size), last)
+    source_side_reply(size)?;
+    refusal::require(
+        holds(size, y) && holds(small, cb) && holds(small, cr),
+        Refusal::SourcePlane,
+    )?;
+    place_reply(size, place)
 }
 
 // The block of `side` columns and rows that is the macroblock's in a plane of this size.
@@ -139,17 +130,10 @@ pub fn luma_block(y: &[u8], size: SourceSize, place: MacroblockPlace, out: &mut 
     ensures value { result ≡ source_luma_block_reply size (length y.now) place (length out.old) }
     ensures out_after { out.new ≡ done result (source_luma y.now size place) out.old }
 {
-    let reply = refusal::and_then(
-        luma_reply(size, y.len(), place),
-        crate::length_reply(out.len(), 16, 16),
-    );
-    match reply {
-        Reply::Refused(why) => Reply::Refused(why),
-        Reply::Done => {
-            copy_part(y, size, place, 16, out);
-            Reply::Done
-        }
-    }
+    luma_reply(size, y.len(), place)?;
+    crate::length_reply(out.len(), 16, 16)?;
+    copy_part(y, size, place, 16, out);
+    Ok(())
 }
 
 // The macroblock's 8 x 8 samples of a chroma plane, row by row: 6, 7, 8, 12. The size is luma's.
@@ -162,15 +146,8 @@ pub fn chroma_block(
     ensures value { result ≡ source_chroma_block_reply size (length chroma.now) place (length out.old) }
     ensures out_after { out.new ≡ done result (source_chroma chroma.now size place) out.old }
 {
-    let reply = refusal::and_then(
-        chroma_reply(size, chroma.len(), place),
-        crate::length_reply(out.len(), 8, 8),
-    );
-    match reply {
-        Reply::Refused(why) => Reply::Refused(why),
-        Reply::Done => {
-            copy_part(chroma, chroma_size(size), place, 8, out);
-            Reply::Done
-        }
-    }
+    chroma_reply(size, chroma.len(), place)?;
+    crate::length_reply(out.len(), 8, 8)?;
+    copy_part(chroma, chroma_size(size), place, 8, out);
+    Ok(())
 }

@@ -2,6 +2,7 @@
 // compiler takes eight samples for one number; a last eight may overlap the one before it.
 ghost use Rattle.std.specs.Prelude.{◌≡◌, ◌≤◌, length};
 
+// Sample by sample: by the library's copy in its place a block of 16 x 16 took a third longer.
 fn copy_each(from: &[u8], out: &mut [u8])
     requires { length from.now ≡ length out.old }
     ensures { out.new ≡ from.now }
@@ -11,20 +12,11 @@ fn copy_each(from: &[u8], out: &mut [u8])
     }
 }
 
-fn copy_four(from: &[u8], out: &mut [u8])
-    requires { (length from.now ≡ 4) × (length out.old ≡ 4) }
+fn copy_held<const N: usize>(from: &[u8], out: &mut [u8])
+    requires { (length from.now ≡ N) × (length out.old ≡ N) }
     ensures { out.new ≡ from.now }
 {
-    let mut held = [0u8; 4];
-    copy_each(from, &mut held);
-    copy_each(&held, out);
-}
-
-fn copy_eight(from: &[u8], out: &mut [u8])
-    requires { (length from.now ≡ 8) × (length out.old ≡ 8) }
-    ensures { out.new ≡ from.now }
-{
-    let mut held = [0u8; 8];
+    let mut held = [0u8; N];
     copy_each(from, &mut held);
     copy_each(&held, out);
 }
@@ -35,8 +27,8 @@ fn copy_fours(from: &[u8], out: &mut [u8])
     ensures { out.new ≡ from.now }
 {
     let last = out.len() - 4;
-    copy_four(&from[..4], &mut out[..4]);
-    copy_four(&from[last..], &mut out[last..]);
+    copy_held::<4>(&from[..4], &mut out[..4]);
+    copy_held::<4>(&from[last..], &mut out[last..]);
 }
 
 // Eights from the first on, and then the last eight.
@@ -48,22 +40,18 @@ fn copy_eights(from: &[u8], out: &mut [u8])
     for k in 0..out.len() / 8 {
         let at = k * 8;
         let end = at + 8;
-        copy_eight(&from[at..end], &mut out[at..end]);
+        copy_held::<8>(&from[at..end], &mut out[at..end]);
     }
-    copy_eight(&from[last..], &mut out[last..]);
+    copy_held::<8>(&from[last..], &mut out[last..]);
 }
 
 pub fn copy_straight(from: &[u8], out: &mut [u8])
     requires { length from.now ≡ length out.old }
     ensures { out.new ≡ from.now }
 {
-    if refusal::between(8, 31, out.len()) {
-        copy_eights(from, out);
-        return;
+    match out.len() {
+        8..=31 => copy_eights(from, out),
+        4..=7 => copy_fours(from, out),
+        _ => copy_each(from, out),
     }
-    if refusal::between(4, 7, out.len()) {
-        copy_fours(from, out);
-        return;
-    }
-    copy_each(from, out);
 }

@@ -3,102 +3,85 @@
 #![tactic(auto)]
 
 ghost use Rattle.std.specs.Prelude.{◌≡◌, ◌≤◌, length};
-ghost use Rattle.refusal.specs.declared.Reply.TheVariants.{Done};
 ghost use Rattle.clip.specs.Header.{head_reply};
 
 use clip::Head;
 use picture::Run;
 use plane::SourceSize;
 use refusal::{Refusal, Reply};
+use std::ops::ControlFlow;
 
 mod row;
 
-// Whether the input fills the first n places.
-fn fill(input: i32, area: &mut [u8], n: usize) -> bool
-    requires { n ≤ length area.old }
-{
-    row::read_first(input, area, n) == n
+// A clip's planes, each in the first places of its area.
+#[derive(Drop)]
+struct Planes {
+    y: [u8; 25344],
+    cb: [u8; 6336],
+    cr: [u8; 6336],
+    reference: [u8; 25344],
 }
 
-// Every macroblock of the picture.
-fn play_rows(
-    input: i32,
-    head: Head,
-    opened: Run,
-    y: &[u8; 25344],
-    cb: &[u8; 6336],
-    cr: &[u8; 6336],
-    reference: &[u8; 25344],
-) -> bool
-    requires { head_reply head ≡ Done }
+fn source_size(head: Head) -> SourceSize {
+    SourceSize {
+        width: head.width,
+        height: head.height,
+    }
+}
+
+// 12, where the input does not fill the first n places.
+fn fill(input: i32, area: &mut [u8], n: usize) -> Reply
+    requires { n ≤ length area.old }
 {
-    let rows = plane::source::macroblocks(head.height);
+    refusal::require(row::read_first(input, area, n) == n, Refusal::Length)
+}
+
+// Every macroblock of the picture; whether all that was to be printed is written.
+fn play_rows(input: i32, head: Head, opened: Run, planes: &Planes) -> bool
+    requires { head_reply head ≡ Ok tt }
+{
     let mut run = opened;
-    let mut row: usize = 0;
-    while row < rows {
-        let played = row::play_row(input, head, run, y, cb, cr, reference);
-        if !played.more {
-            return played.written;
+    for _row in 0..plane::source::macroblocks(head.height) {
+        if let ControlFlow::Break(written) = row::play_row(input, head, &mut run, planes) {
+            return written;
         }
-        run = played.run;
-        row += 1;
     }
     true
 }
 
-fn luma_plane() -> [u8; 25344] {
-    [0; 25344]
-}
-
-fn chroma_plane() -> [u8; 6336] {
-    [0; 6336]
-}
-
 // A picture whose header is taken: its planes, then its macroblocks.
-fn play_picture(input: i32, head: Head, opened: Run) -> bool
-    requires { head_reply head ≡ Done }
+fn play_picture(input: i32, head: Head) -> Result<bool, Refusal>
+    requires { head_reply head ≡ Ok tt }
 {
+    let run = picture::open(source_size(head))?;
     let lengths = clip::plane_lengths(head);
-    let luma = lengths.luma;
-    let chroma = lengths.chroma;
-    let mut y = luma_plane();
-    let mut cb = chroma_plane();
-    let mut cr = chroma_plane();
-    let mut reference = luma_plane();
-    if !fill(input, &mut y, luma) {
-        return row::print_refusal(Refusal::Length);
-    }
-    if !fill(input, &mut cb, chroma) {
-        return row::print_refusal(Refusal::Length);
-    }
-    if !fill(input, &mut cr, chroma) {
-        return row::print_refusal(Refusal::Length);
-    }
-    if !fill(input, &mut reference, luma) {
-        return row::print_refusal(Refusal::Length);
-    }
-    play_rows(input, head, opened, &y, &cb, &cr, &reference)
+    let mut planes = Planes {
+        y: [0; 25344],
+        cb: [0; 6336],
+        cr: [0; 6336],
+        reference: [0; 25344],
+    };
+    fill(input, &mut planes.y, lengths.luma)?;
+    fill(input, &mut planes.cb, lengths.chroma)?;
+    fill(input, &mut planes.cr, lengths.chroma)?;
+    fill(input, &mut planes.reference, lengths.luma)?;
+    Ok(play_rows(input, head, run, &planes))
 }
 
-// A clip from its first byte: a header cut short is 12, a whole one is judged before anything after it is read. Whether all that was to
-// be printed is written.
-pub fn play(input: i32) -> bool {
+// A header cut short is 12, a whole one is judged before anything after it is read.
+#[tactic(auto, using(clip::proofs::Whole::judged_again))]
+fn play_clip(input: i32) -> Result<bool, Refusal> {
     let mut bytes = [0u8; 8];
     let n = io::read_full(input, &mut bytes);
-    let header = clip::read_header(&bytes, n);
-    let reply = header.reply;
-    let head = header.head;
-    match reply {
-        Reply::Refused(why) => row::print_refusal(why),
-        Reply::Done => {
-            let size = SourceSize {
-                width: head.width,
-                height: head.height,
-            };
-            let opened = picture::open(size);
-            let run = opened.run;
-            play_picture(input, head, run)
-        }
+    let head = clip::read_header(&bytes, n)?;
+    play_picture(input, head)
+}
+
+// A clip from its first byte. Whether all that was to be printed is written.
+pub fn play(input: i32) -> bool {
+    match play_clip(input) {
+        Ok(written) => written,
+        Err(why) => row::print_refusal(why),
     }
 }
 

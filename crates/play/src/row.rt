@@ -1,31 +1,24 @@
 // A row of macroblocks: its predictions by one read, each step's line, and all its lines by one write.
-ghost use Rattle.std.specs.Prelude.{◌≡◌, ◌+◌, ◌*◌, ◌≤◌, ◌<◌, length};
-ghost use Rattle.refusal.specs.declared.Reply.TheVariants.{Done};
+ghost use Rattle.std.specs.Prelude.{◌≡◌, ◌+◌, ◌*◌, ◌/◌, ◌≤◌, length};
 ghost use Rattle.clip.specs.Header.{head_reply};
 
+use crate::Planes;
 use clip::{Head, Text};
 use macroblock::Settings;
-use picture::{Run, Stepped};
-use plane::{Geometry, SourceSize};
+use picture::Run;
+use plane::Geometry;
+use record::Record;
 use refusal::{Refusal, Reply};
+use std::ops::ControlFlow;
 
 // The descriptor of standard output.
 const STDOUT: i32 = 1;
 
-// Whether another row may follow, whether all that was to be printed is written, and the run as it then is.
-#[derive(Clone, Copy)]
-pub struct Played {
-    pub more: bool,
-    pub written: bool,
-    pub run: Run,
-}
-
-// Whether another macroblock may follow, how far the row's lines reach, and the run as it then is.
-#[derive(Clone, Copy)]
-struct Added {
-    more: bool,
-    at: usize,
-    run: Run,
+// A row's lines in the first `len` of the bytes, with room for twelve.
+#[derive(Drop)]
+struct Lines {
+    bytes: [u8; 2376],
+    len: usize,
 }
 
 // As many of the first n places as the input fills.
@@ -33,8 +26,7 @@ pub fn read_first(input: i32, area: &mut [u8], n: usize) -> usize
     requires { n ≤ length area.old }
     ensures { (result ≤ n) × (length area.new ≡ length area.old) }
 {
-    let got = io::read_full(input, &mut area[..n]);
-    if got < n { got } else { n }
+    io::read_full(input, &mut area[..n]).min(n)
 }
 
 // Whether the first n places are written.
@@ -46,19 +38,17 @@ fn print_first(area: &[u8], n: usize) -> bool
 
 pub fn print_refusal(why: Refusal) -> bool {
     let line = clip::refusal_line(why);
-    let bytes = line.bytes;
-    print_first(&bytes, line.len)
+    print_first(&line.bytes, line.len)
 }
 
-// A line after the first `at` places, which has room there; how far the lines then reach.
-fn add_line(lines: &mut [u8], at: usize, line: Text) -> usize
-    requires { (line.len ≤ 198) × (at + 198 ≤ length lines.old) }
-    ensures { (result ≤ at + 198) × (length lines.new ≡ length lines.old) }
+// A line more, which has room.
+fn add_line(lines: &mut Lines, line: Text)
+    requires { (line.len ≤ 198) × (lines.old.len + 198 ≤ 2376) }
+    ensures { lines.new.len ≤ lines.old.len + 198 }
 {
-    let bytes = line.bytes;
-    let n = line.len;
-    plane::copy_samples(&bytes[..n], &mut lines[at..at + n]);
-    at + n
+    let end = lines.len + line.len;
+    lines.bytes[lines.len..end].copy_from_slice(&line.bytes[..line.len]);
+    lines.len = end;
 }
 
 // bpp 8, second method, zigzag.
@@ -77,19 +67,10 @@ fn settings_of(head: Head) -> Settings {
 // The run's next macroblock against its prediction.
 fn step(
     head: Head,
-    run: Run,
-    y: &[u8],
-    cb: &[u8],
-    cr: &[u8],
-    reference: &[u8],
-    prediction: &[u8],
-) -> Stepped
-    requires { length prediction.now ≡ 384 }
-{
-    let size = SourceSize {
-        width: head.width,
-        height: head.height,
-    };
+    run: &mut Run,
+    planes: &Planes,
+    prediction: &[u8; 384],
+) -> Result<Record, Refusal> {
     let geometry = Geometry {
         width: head.width,
         height: head.height,
@@ -103,12 +84,12 @@ fn step(
     picture::step(
         run,
         settings_of(head),
-        reference,
+        &planes.reference,
         geometry,
-        y,
-        cb,
-        cr,
-        size,
+        &planes.y,
+        &planes.cb,
+        &planes.cr,
+        crate::source_size(head),
         &weights,
         &prediction[..256],
         &prediction[256..320],
@@ -119,120 +100,57 @@ fn step(
     )
 }
 
-// The line of what a step from `run` answered.
-fn add_step(lines: &mut [u8], at: usize, run: Run, stepped: Stepped, four: bool) -> Added
-    requires { at + 198 ≤ length lines.old }
-    ensures { (result.at ≤ at + 198) × (length lines.new ≡ length lines.old) }
-{
-    let reply = stepped.reply;
-    let next = stepped.run;
-    let given = stepped.record;
-    match reply {
-        Reply::Refused(why) => Added {
-            more: false,
-            at: add_line(lines, at, clip::refusal_line(why)),
-            run: next,
-        },
-        Reply::Done => {
-            let place = picture::next_place(run);
-            let line = clip::macroblock_line(place.column, place.row, given, four);
-            Added {
-                more: true,
-                at: add_line(lines, at, line),
-                run: next,
-            }
-        }
-    }
-}
-
-// As many macroblocks as there are whole predictions.
+// The lines of as many macroblocks as there are whole predictions, up to one that is refused.
 fn add_steps(
     head: Head,
-    begun: Run,
-    y: &[u8],
-    cb: &[u8],
-    cr: &[u8],
-    reference: &[u8],
+    run: &mut Run,
+    planes: &Planes,
     predictions: &[u8],
-    whole: usize,
-    lines: &mut [u8],
-) -> Added
-    requires { (384 * whole ≤ length predictions.now) × (198 * whole ≤ length lines.old) }
-    ensures { (result.at ≤ 198 * whole) × (length lines.new ≡ length lines.old) }
+    lines: &mut Lines,
+) -> Reply
+    requires { (length predictions.now ≤ 4224) × (lines.old.len ≡ 0) }
+    ensures { lines.new.len ≤ 198 * (length predictions.now / 384) }
 {
-    let four = head.vectors == 4;
-    let mut run = begun;
-    let mut at: usize = 0;
-    let mut column: usize = 0;
-    while column < whole {
-        let from = 384 * column;
-        let part = &predictions[from..from + 384];
-        let stepped = step(head, run, y, cb, cr, reference, part);
-        let added = add_step(lines, at, run, stepped, four);
-        if !added.more {
-            return added;
-        }
-        run = added.run;
-        at = added.at;
-        column += 1;
+    let (whole, _cut) = predictions.as_chunks::<384>();
+    for prediction in whole {
+        let place = picture::next_place(*run);
+        let given = step(head, run, planes, prediction)?;
+        add_line(
+            lines,
+            clip::macroblock_line(place.column, place.row, given, head.vectors == 4),
+        );
     }
-    Added {
-        more: true,
-        at,
-        run,
-    }
+    Ok(())
 }
 
-// 12 after the lines, where the row's predictions are cut short.
-fn add_cut(lines: &mut [u8], at: usize, cut: bool) -> usize
-    requires { at + 198 ≤ length lines.old }
-    ensures { (result ≤ at + 198) × (length lines.new ≡ length lines.old) }
+// The lines of a row whose predictions may be cut short, those that are whole; then, where one is refused or missing, why.
+fn add_row(input: i32, head: Head, run: &mut Run, planes: &Planes, lines: &mut Lines) -> Reply
+    requires { (head_reply head ≡ Ok tt) × (lines.old.len ≡ 0) }
+    ensures { lines.new.len ≤ 2178 }
 {
-    if cut {
-        return add_line(lines, at, clip::refusal_line(Refusal::Length));
-    }
-    at
-}
-
-// A row whose predictions may be cut short: the lines of those that are whole, then 12.
-pub fn play_row(
-    input: i32,
-    head: Head,
-    begun: Run,
-    y: &[u8],
-    cb: &[u8],
-    cr: &[u8],
-    reference: &[u8],
-) -> Played
-    requires { head_reply head ≡ Done }
-{
-    let columns = plane::source::macroblocks(head.width);
+    let wanted = 384 * plane::source::macroblocks(head.width);
     let mut predictions = [0u8; 4224];
-    let n = read_first(input, &mut predictions, 384 * columns);
-    let whole = n / 384;
-    let mut lines = [0u8; 2376];
-    let added = add_steps(
-        head,
-        begun,
-        y,
-        cb,
-        cr,
-        reference,
-        &predictions,
-        whole,
-        &mut lines,
-    );
-    let run = added.run;
-    let at = add_cut(
-        &mut lines,
-        added.at,
-        refusal::both(added.more, whole < columns),
-    );
-    let written = print_first(&lines, at);
-    let all = refusal::both(added.more, whole == columns);
-    Played {
-        more: refusal::both(all, written),
-        written,
-        run,
+    let n = read_first(input, &mut predictions, wanted);
+    add_steps(head, run, planes, &predictions[..n], lines)?;
+    refusal::require(n == wanted, Refusal::Length)
+}
+
+// A row, and its refusal after its lines. Where the clip goes on all is written; where it ends here, whether all is.
+pub fn play_row(input: i32, head: Head, run: &mut Run, planes: &Planes) -> ControlFlow<bool>
+    requires { head_reply head ≡ Ok tt }
+{
+    let mut lines = Lines {
+        bytes: [0; 2376],
+        len: 0,
+    };
+    let reply = add_row(input, head, run, planes, &mut lines);
+    if let Err(why) = reply {
+        add_line(&mut lines, clip::refusal_line(why));
+    }
+    let written = print_first(&lines.bytes, lines.len);
+    if reply.is_ok() && written {
+        ControlFlow::Continue(())
+    } else {
+        ControlFlow::Break(written)
     }
 }

@@ -2,7 +2,7 @@
 #![tactic(auto)]
 
 ghost use Rattle.std.specs.Prelude.{◌≡◌, length};
-ghost use Rattle.refusal.specs.Reply.{done};
+ghost use Rattle.refusal.specs.Reply.{answer, done};
 ghost use Rattle.plane.specs.Plane.{plane_of};
 ghost use Rattle.plane.specs.Samples.{samples};
 ghost use Rattle.prediction.specs.Luma.{mode_of, predicted_block};
@@ -15,16 +15,20 @@ ghost use Rattle.predicting.specs.Luma.{luma_block_reply, luma_macroblock_reply}
 ghost use Rattle.predicting.specs.Samples.{macroblock_samples_reply};
 
 use plane::{Geometry, MacroblockPlace, Point, Site};
-use prediction::{ChromaVector, PvopMbMotion, ReferenceGeometry};
+use prediction::{BVopSampleMode, PvopMbMotion, ReferenceGeometry};
 use record::MotionVector;
 use refusal::{Refusal, Reply};
 
-// 2
-fn mode_number_reply(mode: u32) -> Reply
-    ensures { result ≡ mode_number_reply mode }
+// What a mode's number stands for: 2.
+#[tactic(auto, unfolding(crate::specs::Mode::mode_number_reply))]
+fn sample_mode(mode: u32, bpp: u32) -> Result<BVopSampleMode, Refusal>
+    ensures { result ≡ answer (mode_number_reply mode) (mode_of mode bpp) }
 {
-    let known = refusal::either(mode == 0, mode == 1);
-    refusal::unless(known, Refusal::Mode, Reply::Done)
+    match mode {
+        0 => Ok(BVopSampleMode::HalfPel),
+        1 => Ok(BVopSampleMode::QuarterPel(bpp)),
+        _ => Err(Refusal::Mode),
+    }
 }
 
 // The luma of a block.
@@ -41,14 +45,8 @@ pub fn predict_luma_block(
     ensures value { result ≡ luma_block_reply mode bpp geometry (length samples.now) vector site rounding (length out.old) }
     ensures out_after { out.new ≡ done result (predicted_block (mode_of mode bpp) (plane_of samples.now geometry) site rounding vector) out.old }
 {
-    let known = mode_number_reply(mode);
-    let units = prediction::mode_of(mode, bpp);
-    match known {
-        Reply::Refused(why) => Reply::Refused(why),
-        Reply::Done => {
-            prediction::predict_luma_block(samples, geometry, units, site, vector, rounding, out)
-        }
-    }
+    let units = sample_mode(mode, bpp)?;
+    prediction::predict_luma_block(samples, geometry, units, site, vector, rounding, out)
 }
 
 // The luma of a macroblock.
@@ -65,27 +63,16 @@ pub fn predict_luma_macroblock(
     ensures value { result ≡ luma_macroblock_reply mode bpp geometry (length samples.now) motion corner rounding (length out.old) }
     ensures out_after { out.new ≡ done result (macroblock_luma (mode_of mode bpp) (plane_of samples.now geometry) motion corner rounding) out.old }
 {
-    let known = mode_number_reply(mode);
-    let units = prediction::mode_of(mode, bpp);
-    match known {
-        Reply::Refused(why) => Reply::Refused(why),
-        Reply::Done => prediction::predict_luma_macroblock(
-            samples, geometry, units, motion, corner, rounding, out,
-        ),
-    }
+    let units = sample_mode(mode, bpp)?;
+    prediction::predict_luma_macroblock(samples, geometry, units, motion, corner, rounding, out)
 }
 
 // The chroma vector: 2, 8. The bits per pixel of quarter samples do not count.
-pub fn chroma_vector(mode: u32, motion: PvopMbMotion) -> ChromaVector
+pub fn chroma_vector(mode: u32, motion: PvopMbMotion) -> Result<MotionVector, Refusal>
     ensures { result ≡ chroma_in mode motion }
 {
-    match mode_number_reply(mode) {
-        Reply::Refused(why) => ChromaVector {
-            reply: Reply::Refused(why),
-            vector: record::zero_vector(),
-        },
-        Reply::Done => prediction::chroma_vector(prediction::mode_of(mode, 8), motion),
-    }
+    let units = sample_mode(mode, 8)?;
+    prediction::chroma_vector(units, motion)
 }
 
 // All 384 samples of a macroblock.
@@ -109,12 +96,8 @@ pub fn predict_macroblock(
         (result ≡ macroblock_samples_reply mode bpp geometry (lengths_in reference) motion place rounding (lengths_in old))
         × (new ≡ done result (macroblock_prediction (mode_of mode bpp) (planes_of reference geometry) motion place rounding) old) }
 {
-    let known = mode_number_reply(mode);
-    let units = prediction::mode_of(mode, bpp);
-    match known {
-        Reply::Refused(why) => Reply::Refused(why),
-        Reply::Done => prediction::predict_macroblock(
-            ref_y, ref_cb, ref_cr, geometry, units, motion, place, rounding, y, cb, cr,
-        ),
-    }
+    let units = sample_mode(mode, bpp)?;
+    prediction::predict_macroblock(
+        ref_y, ref_cb, ref_cr, geometry, units, motion, place, rounding, y, cb, cr,
+    )
 }

@@ -5,6 +5,5 @@ pub mod Ready
 pub mod Whole
 -- And laws that several proofs here cite.
 mod ChromaRange
-mod Rounding
 mod Sizes
 mod Weave

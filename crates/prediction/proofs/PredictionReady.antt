@@ -8,8 +8,8 @@ use lib.IntN.{pos, negsuc}
 use borrow.Author.Tests.{eqb-true, eq-eqb}
 use Rattle.basis.proofs.Case.{both}
 use Rattle.refusal.specs.declared.Refusal.TheVariants.{Place, Length}
-use Rattle.refusal.specs.declared.Reply.{Reply}
-use Rattle.refusal.specs.declared.Reply.TheVariants.{Done, Refused}
+use Rattle.refusal.specs.Reply.{Reply}
+use Rattle.std.specs.Prelude.{Ok, Err}
 use Rattle.refusal.specs.Reply.{unless, and_then}
 use Rattle.refusal.specs.Test.{in_range}
 use Rattle.refusal.proofs.Replies.{first_done, then_done, unless-done, both_done}
@@ -35,11 +35,11 @@ use Rattle.prediction.proofs.Ready.{first_corner}
 
 -- no plane of the reference is refused
 pub record PlanesReady (g : ReferenceGeometry) (n : PlaneLengths) : Type 0 where
-  pub luma : reference_reply g.luma n.y ≡ Done
-  pub blue : reference_reply (chroma_geometry g) n.cb ≡ Done
-  pub red : reference_reply (chroma_geometry g) n.cr ≡ Done
+  pub luma : reference_reply g.luma n.y ≡ Ok tt
+  pub blue : reference_reply (chroma_geometry g) n.cb ≡ Ok tt
+  pub red : reference_reply (chroma_geometry g) n.cr ≡ Ok tt
 
-pub planes_ready : (g : ReferenceGeometry) (n : PlaneLengths) → planes_reply g n ≡ Done → PlanesReady g n
+pub planes_ready : (g : ReferenceGeometry) (n : PlaneLengths) → planes_reply g n ≡ Ok tt → PlanesReady g n
 unfolding planes_reply reference_reply
 planes_ready g n e =
     let sl = reference_size_reply g.luma in
@@ -63,12 +63,12 @@ pub record AreasReady (n : PlaneLengths) : Type 0 where
   pub blue : n.cb ≡ 64
   pub red : n.cr ≡ 64
 
-pub areas_ready : (n : PlaneLengths) → samples_reply n ≡ Done → AreasReady n
+pub areas_ready : (n : PlaneLengths) → samples_reply n ≡ Ok tt → AreasReady n
 areas_ready n e =
     let y = eqb n.y 256 in
     let b = eqb n.cb 64 in
     let r = eqb n.cr 64 in
-    let all = unless-done (y && (b && r)) Length Done e in
+    let all = unless-done (y && (b && r)) Length (Ok tt) e in
     let chroma = and_right y (b && r) all in
     record {
       luma = eqb-true n.y 256 (and_left y (b && r) all);
@@ -76,9 +76,9 @@ areas_ready n e =
       red = eqb-true n.cr 64 (and_right b r chroma);
     }
 
-pub areas-done : (n : PlaneLengths) → n.y ≡ 256 → n.cb ≡ 64 → n.cr ≡ 64 → samples_reply n ≡ Done
+pub areas-done : (n : PlaneLengths) → n.y ≡ 256 → n.cb ≡ 64 → n.cr ≡ 64 → samples_reply n ≡ Ok tt
 areas-done n p q r =
-    ap (λ (t : Bool). unless t Length Done) (both (eq-eqb n.y 256 p) (both (eq-eqb n.cb 64 q) (eq-eqb n.cr 64 r)))
+    ap (λ (t : Bool). unless t Length (Ok tt)) (both (eq-eqb n.y 256 p) (both (eq-eqb n.cb 64 q) (eq-eqb n.cr 64 r)))
 
 -- a corner in range is not beyond 4,096, and one from 0 to 4,096 is in range
 pub record CornerIn (x y : ℕ) : Type 0 where
@@ -103,9 +103,9 @@ origin_done x y h k =
     (range_is (negsuc 4095) (pos 4096) (pos y) (omega arith) (omega arith))
 
 -- a motion that is not refused has a vector in range
-pub vector_ready : (v : MotionVector) (o : Point) → motion_reply v o ≡ Done → vector_in_range v ≡ true
+pub vector_ready : (v : MotionVector) (o : Point) → motion_reply v o ≡ Ok tt → vector_in_range v ≡ true
 unfolding motion_reply
-vector_ready v o e = and_right (origin_in_range o) (vector_in_range v) (unless-done (origin_in_range o && vector_in_range v) Place Done e)
+vector_ready v o e = and_right (origin_in_range o) (vector_in_range v) (unless-done (origin_in_range o && vector_in_range v) Place (Ok tt) e)
 
 -- motions of a macroblock's place that are not refused
 pub record MotionsReady (motion : PvopMbMotion) (place : MacroblockPlace) : Type 0 where
@@ -113,7 +113,7 @@ pub record MotionsReady (motion : PvopMbMotion) (place : MacroblockPlace) : Type
   pub row : place.row ≤ 256
   pub vectors : motion_in_range motion ≡ true
 
-pub motions_ready : (motion : PvopMbMotion) (place : MacroblockPlace) → motions_reply motion (corner_of place) ≡ Done → MotionsReady motion place
+pub motions_ready : (motion : PvopMbMotion) (place : MacroblockPlace) → motions_reply motion (corner_of place) ≡ Ok tt → MotionsReady motion place
 motions_ready (OneMv v) place e =
     let at = corner_in (16 * place.column) (16 * place.row) (origin_ready v (corner_of place) e) in
     record { column = omega (arith, at.across); row = omega (arith, at.down); vectors = vector_ready v (corner_of place) e }
@@ -136,7 +136,7 @@ motions_ready (FourMv a b c d) place e =
     }
 
 pub motions_done : (motion : PvopMbMotion) (place : MacroblockPlace) → motion_in_range motion ≡ true → place.column ≤ 255 → place.row ≤ 255
-    → motions_reply motion (corner_of place) ≡ Done
+    → motions_reply motion (corner_of place) ≡ Ok tt
 motions_done (OneMv v) place e h k =
     motion_done v (corner_of place) (origin_done (16 * place.column) (16 * place.row) (omega arith) (omega arith)) e
 motions_done (FourMv a b c d) place e h k =
@@ -155,37 +155,37 @@ motions_done (FourMv a b c d) place e h k =
     (motion_done d (block_corner o 3) (origin_done (x + 8) (y + 8) (omega arith) (omega arith)) (and_right vc vd e2))))
 
 -- a place beyond 256 is refused, whatever the motion
-motion_refused : (v : MotionVector) (o : Point) → origin_in_range o ≡ false → motion_reply v o ≡ Refused Place
+motion_refused : (v : MotionVector) (o : Point) → origin_in_range o ≡ false → motion_reply v o ≡ Err Place
 unfolding motion_reply
-motion_refused v o e = ap (λ (t : Bool). unless (t && vector_in_range v) Place Done) e
+motion_refused v o e = ap (λ (t : Bool). unless (t && vector_in_range v) Place (Ok tt)) e
 
-outside : (motion : PvopMbMotion) (o : Point) → origin_in_range o ≡ false → motions_reply motion o ≡ Refused Place
+outside : (motion : PvopMbMotion) (o : Point) → origin_in_range o ≡ false → motions_reply motion o ≡ Err Place
 outside (OneMv v) o e = motion_refused v o e
 outside (FourMv a b c d) o e =
     let rest = and_then (motion_reply b (block_corner o 1)) (and_then (motion_reply c (block_corner o 2)) (motion_reply d (block_corner o 3))) in
     ap (λ (r : Reply). and_then r rest) (motion_refused a (block_corner o 0) (ap origin_in_range (first_corner o) ∙ e))
 
 pub far_refused : (motion : PvopMbMotion) (place : MacroblockPlace) → (CornerIn (16 * place.column) (16 * place.row) → ⊥)
-    → motions_reply motion (corner_of place) ≡ Refused Place
+    → motions_reply motion (corner_of place) ≡ Err Place
 far_refused motion place far = by (origin_in_range (corner_of place)) refl
   where
-    by : (t : Bool) → origin_in_range (corner_of place) ≡ t → motions_reply motion (corner_of place) ≡ Refused Place
+    by : (t : Bool) → origin_in_range (corner_of place) ≡ t → motions_reply motion (corner_of place) ≡ Err Place
     by true e = absurd (far (corner_in (16 * place.column) (16 * place.row) e))
     by false e = outside motion (corner_of place) e
 
 -- each test has passed
 pub record PredictionReady (m : BVopSampleMode) (g : ReferenceGeometry) (n : PlaneLengths) (motion : PvopMbMotion)
     (place : MacroblockPlace) (rounding : ℕ) (out : PlaneLengths) : Type 0 where
-  pub mode : mode_reply m ≡ Done
+  pub mode : mode_reply m ≡ Ok tt
   pub planes : PlanesReady g n
-  pub motions : motions_reply motion (corner_of place) ≡ Done
+  pub motions : motions_reply motion (corner_of place) ≡ Ok tt
   pub moved : MotionsReady motion place
   pub areas : AreasReady out
-  pub rounding_type : rounding_reply rounding ≡ Done
+  pub rounding_type : rounding_reply rounding ≡ Ok tt
 
 module _ (m : BVopSampleMode) (g : ReferenceGeometry) (n : PlaneLengths) (motion : PvopMbMotion) (place : MacroblockPlace)
     (rounding : ℕ) (out : PlaneLengths) where
-  pub prediction_ready : prediction_reply m g n motion place rounding out ≡ Done → PredictionReady m g n motion place rounding out
+  pub prediction_ready : prediction_reply m g n motion place rounding out ≡ Ok tt → PredictionReady m g n motion place rounding out
   unfolding prediction_reply
   prediction_ready e =
       let p = planes_reply g n in
@@ -205,25 +205,25 @@ module _ (m : BVopSampleMode) (g : ReferenceGeometry) (n : PlaneLengths) (motion
         rounding_type = then_done s r e3;
       }
 
-  pub prediction_done : mode_reply m ≡ Done → planes_reply g n ≡ Done → motion_in_range motion ≡ true → place.column ≤ 255
-      → place.row ≤ 255 → rounding_reply rounding ≡ Done → out.y ≡ 256 → out.cb ≡ 64 → out.cr ≡ 64
-      → prediction_reply m g n motion place rounding out ≡ Done
+  pub prediction_done : mode_reply m ≡ Ok tt → planes_reply g n ≡ Ok tt → motion_in_range motion ≡ true → place.column ≤ 255
+      → place.row ≤ 255 → rounding_reply rounding ≡ Ok tt → out.y ≡ 256 → out.cb ≡ 64 → out.cr ≡ 64
+      → prediction_reply m g n motion place rounding out ≡ Ok tt
   unfolding prediction_reply
   prediction_done e p v c r t y cb cr =
       both_done e (both_done p (both_done (motions_done motion place v c r) (both_done (areas-done out y cb cr) t)))
 
 -- the luma of a macroblock whose parts are in range
 pub macroblock-done : (m : BVopSampleMode) (g : Geometry) (bytes : ℕ) (motion : PvopMbMotion) (corner : Point) (rounding area : ℕ)
-    → mode_reply m ≡ Done → reference_reply g bytes ≡ Done → motions_reply motion corner ≡ Done → rounding_reply rounding ≡ Done
-    → area ≡ 256 → macroblock_reply m g bytes motion corner rounding area ≡ Done
+    → mode_reply m ≡ Ok tt → reference_reply g bytes ≡ Ok tt → motions_reply motion corner ≡ Ok tt → rounding_reply rounding ≡ Ok tt
+    → area ≡ 256 → macroblock_reply m g bytes motion corner rounding area ≡ Ok tt
 unfolding macroblock_reply
 macroblock-done m g bytes motion corner rounding area e r v t f =
     both_done e (both_done r (both_done v (both_done (length-done area 16 16 f) t)))
 
 -- a chroma block whose parts are in range
 pub chroma-done : (m : BVopSampleMode) (g : Geometry) (bytes : ℕ) (motion : PvopMbMotion) (place : MacroblockPlace) (area : ℕ)
-    → reference_reply g bytes ≡ Done → MotionsReady motion place → vector_in_range (chroma_vector m motion) ≡ true → area ≡ 64
-    → block_reply g bytes (chroma_vector m motion) (square_at (corner_at 8 place) 8) area ≡ Done
+    → reference_reply g bytes ≡ Ok tt → MotionsReady motion place → vector_in_range (chroma_vector m motion) ≡ true → area ≡ 64
+    → block_reply g bytes (chroma_vector m motion) (square_at (corner_at 8 place) 8) area ≡ Ok tt
 chroma-done m g bytes motion place area e v w f =
     block_done g bytes (chroma_vector m motion) (square_at (corner_at 8 place) 8) area e
     (motion_done (chroma_vector m motion) (corner_at 8 place)

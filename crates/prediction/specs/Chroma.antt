@@ -1,21 +1,20 @@
--- The chroma vector of a macroblock (7.6.5; for one vector Table 7-13), a component at a time: luma's vectors, in half or quarter samples, give
--- one in half samples of chroma.
-use Rattle.std.specs.Prelude.{ℕ, ◌+◌, ◌*◌, ◌/◌, ◌%◌, Bool, ◌&&◌, cond, eqb, leb, ℤ, pos, nat_abs, ◌+ℤ◌, ◌*ℤ◌}
+-- The chroma vector of a macroblock (7.6.5; for one vector Table 7-13), a component at a time: luma's vectors, in half or quarter
+-- samples, give one in half samples of chroma.
+use Rattle.refusal.specs.declared.Refusal.{Refusal}
+use Rattle.std.specs.Prelude.{ℕ, ◌+◌, ◌*◌, ◌/◌, ◌%◌, Bool, ◌&&◌, cond, eqb, leb, ℤ, pos, nat_abs, ◌+ℤ◌, ◌*ℤ◌, Result}
 use Rattle.std.specs.Int.Signed.{quot_z}
 use Rattle.basis.specs.Signed.{signed}
 use Rattle.refusal.specs.declared.Refusal.TheVariants.{Place}
-use Rattle.refusal.specs.declared.Reply.{Reply}
-use Rattle.refusal.specs.declared.Reply.TheVariants.{Done}
-use Rattle.refusal.specs.Reply.{unless, done}
+use Rattle.refusal.specs.Reply.{Reply, answer}
+use Rattle.std.specs.Prelude.{Ok}
+use Rattle.refusal.specs.Reply.{unless}
 use Rattle.record.specs.declared.MotionVector.{MotionVector}
-use Rattle.record.specs.Zero.{zero_vector}
 use Rattle.plane.specs.Reference.{vector_in_range}
 use Rattle.quarter_sample.specs.Split.{split_quarter}
 use Rattle.prediction.specs.declared.BVopSampleMode.{BVopSampleMode}
 use Rattle.prediction.specs.declared.BVopSampleMode.TheVariants.{HalfPel, QuarterPel}
 use Rattle.prediction.specs.declared.PvopMbMotion.{PvopMbMotion}
 use Rattle.prediction.specs.declared.PvopMbMotion.TheVariants.{OneMv, FourMv}
-use Rattle.prediction.specs.declared.ChromaVector.{ChromaVector}
 
 -- a component in half samples of luma: in quarter mode it is halved toward zero
 abbrev pub in_halves : BVopSampleMode → ℤ → ℤ
@@ -50,9 +49,7 @@ motion_in_range (FourMv a b c d) = vector_in_range a && (vector_in_range b && (v
 
 -- 8
 unfoldable pub vectors_reply : PvopMbMotion → Reply
-vectors_reply motion = unless (motion_in_range motion) Place Done
+vectors_reply motion = unless (motion_in_range motion) Place (Ok tt)
 
--- the vector is 0 where it is refused
-unfoldable pub chroma_vector_of : BVopSampleMode → PvopMbMotion → ChromaVector
-chroma_vector_of m motion =
-    record { reply = vectors_reply motion; vector = done (vectors_reply motion) (chroma_vector m motion) zero_vector }
+unfoldable pub chroma_vector_of : BVopSampleMode → PvopMbMotion → Result MotionVector Refusal
+chroma_vector_of m motion = answer (vectors_reply motion) (chroma_vector m motion)

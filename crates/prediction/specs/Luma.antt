@@ -3,8 +3,8 @@
 use Rattle.std.specs.Prelude.{ℕ, cond, List, eqb, ℤ, pos, ◌*ℤ◌}
 use Rattle.basis.specs.Lists.{raster}
 use Rattle.refusal.specs.declared.Refusal.TheVariants.{RoundingType}
-use Rattle.refusal.specs.declared.Reply.{Reply}
-use Rattle.refusal.specs.declared.Reply.TheVariants.{Done}
+use Rattle.refusal.specs.Reply.{Reply}
+use Rattle.std.specs.Prelude.{Ok}
 use Rattle.refusal.specs.Reply.{unless, and_then}
 use Rattle.refusal.specs.Bounds.{is_rounding_type}
 use Rattle.record.specs.declared.MotionVector.{MotionVector}
@@ -46,7 +46,7 @@ interpolation_reply (QuarterPel bpp) g bytes v site area = quarter_reply bpp g b
 
 -- 31: a rounding type above 1
 unfoldable pub rounding_reply : ℕ → Reply
-rounding_reply rounding = unless (is_rounding_type rounding) RoundingType Done
+rounding_reply rounding = unless (is_rounding_type rounding) RoundingType (Ok tt)
 
 -- those of interpolation, then 31
 unfoldable pub predict_reply : BVopSampleMode → Geometry → ℕ → MotionVector → Site → ℕ → ℕ → Reply

@@ -1,8 +1,8 @@
 -- The luma of a macroblock: one vector is one 16 x 16 block, four are four 8 x 8 blocks, 0 and 1 above 2 and 3.
 use Rattle.std.specs.Prelude.{ℕ, ◌+◌, ◌*◌, ◌/◌, ◌%◌, List, [], ◌∷◌, get_or}
 use Rattle.basis.specs.Lists.{raster}
-use Rattle.refusal.specs.declared.Reply.{Reply}
-use Rattle.refusal.specs.declared.Reply.TheVariants.{Done}
+use Rattle.refusal.specs.Reply.{Reply}
+use Rattle.std.specs.Prelude.{Ok}
 use Rattle.refusal.specs.Reply.{and_then}
 use Rattle.record.specs.declared.MotionVector.{MotionVector}
 use Rattle.record.specs.Zero.{zero_vector}
@@ -33,7 +33,7 @@ macroblock_luma m p v corner rounding = raster 16 16 (macroblock_sample m p v co
 
 -- 3, in quarter mode
 abbrev pub mode_reply : BVopSampleMode → Reply
-mode_reply HalfPel = Done
+mode_reply HalfPel = Ok tt
 mode_reply (QuarterPel bpp) = bits_reply bpp
 
 -- 8, for each block

@@ -1,8 +1,8 @@
 -- The 384 samples of a macroblock, predicted from its vector or its four, three planes and a rounding type.
 use Rattle.std.specs.Prelude.{ℕ, cond, ◌&&◌, List, eqb, get_or}
 use Rattle.refusal.specs.declared.Refusal.TheVariants.{Length}
-use Rattle.refusal.specs.declared.Reply.{Reply}
-use Rattle.refusal.specs.declared.Reply.TheVariants.{Done}
+use Rattle.refusal.specs.Reply.{Reply}
+use Rattle.std.specs.Prelude.{Ok}
 use Rattle.refusal.specs.Reply.{unless, and_then}
 use Rattle.record.specs.declared.MotionVector.{MotionVector}
 use Rattle.record.specs.Zero.{zero_vector}
@@ -38,7 +38,7 @@ macroblock_prediction m p motion place rounding =
 
 -- 12: areas not 256, 64, 64
 abbrev pub samples_reply : PlaneLengths → Reply
-samples_reply n = unless (eqb n.y 256 && (eqb n.cb 64 && eqb n.cr 64)) Length Done
+samples_reply n = unless (eqb n.y 256 && (eqb n.cb 64 && eqb n.cr 64)) Length (Ok tt)
 
 -- 3, 4, 5, 8, 12, 31; the reference's lengths, then the areas'
 unfoldable pub prediction_reply : BVopSampleMode → ReferenceGeometry → PlaneLengths → PvopMbMotion → MacroblockPlace → ℕ → PlaneLengths → Reply

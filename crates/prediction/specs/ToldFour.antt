@@ -1,6 +1,6 @@
 -- Told, not believed: four blocks that are not turned back, and where their samples go.
 use Rattle.std.specs.Prelude.{ℕ, ◌+◌, ◌*◌, ◌/◌, ◌%◌, ◌<◌, true, List, ◌≡◌, get_or}
-use Rattle.refusal.specs.declared.Reply.TheVariants.{Done}
+use Rattle.std.specs.Prelude.{Ok}
 use Rattle.record.specs.declared.MotionVector.{MotionVector}
 use Rattle.record.specs.Zero.{zero_vector}
 use Rattle.plane.specs.declared.Geometry.{Geometry}
@@ -14,7 +14,7 @@ use Rattle.prediction.specs.Luma.{predicted_block, interpolation_reply}
 -- none of the four is turned back
 pub record FourReady (m : BVopSampleMode) (g : Geometry) (bytes : ℕ) (vs : List MotionVector) (corner : Point) : Type 0 where
   pub in_range_is : origin_in_range corner ≡ true
-  pub each : (k : ℕ) → k < 4 → interpolation_reply m g bytes (get_or vs k zero_vector) (square_at (block_corner corner k) 8) 64 ≡ Done
+  pub each : (k : ℕ) → k < 4 → interpolation_reply m g bytes (get_or vs k zero_vector) (square_at (block_corner corner k) 8) 64 ≡ Ok tt
 
 -- 8 x 8 block k, from a copy of its own, by its own vector
 abbrev pub eight_block : BVopSampleMode → Plane → List MotionVector → Point → ℕ → ℕ → List ℕ

@@ -1,7 +1,6 @@
 // Four 8 x 8 blocks, each from a copy of its own, and the macroblock that they make.
-ghost use Rattle.std.specs.Prelude.{◌≡◌, true, ◌+◌, ◌<◌, ◌≤◌, pos, negsuc, ◌+ℤ◌, length, get_or};
+ghost use Rattle.std.specs.Prelude.{◌≡◌, true, ◌+◌, ◌<◌, length, get_or};
 ghost use Rattle.basis.specs.Lists.{tabulate, rows, raster};
-ghost use Rattle.refusal.specs.Test.{in_range};
 ghost use Rattle.plane.specs.Plane.{plane_of};
 ghost use Rattle.plane.specs.Corner.{block_corner};
 ghost use Rattle.plane.specs.Reference.{origin_in_range};
@@ -14,23 +13,18 @@ use plane::{Geometry, Point, Site};
 use record::MotionVector;
 use refusal::Reply;
 
-fn moved(at: i32, by: usize) -> i32
-    requires { (in_range (negsuc 4095) (pos 4096) at ≡ true) × (by ≤ 8) }
-    ensures { result ≡ at +ℤ pos by }
-{
-    at + by as i32
-}
-
 fn block_corner(corner: Point, k: usize) -> Point
     requires { (origin_in_range corner ≡ true) × (k < 4) }
     ensures { result ≡ block_corner corner k }
 {
-    let x = moved(corner.x, 8 * (k % 2));
-    let y = moved(corner.y, 8 * (k / 2));
-    Point { x, y }
+    Point {
+        x: corner.x + (8 * (k % 2)) as i32,
+        y: corner.y + (8 * (k / 2)) as i32,
+    }
 }
 
 // 8, for each of four blocks: the others' corners are made once the first one's is known to be in range.
+#[tactic(auto, using(crate::proofs::Ready::first_corner))]
 pub fn four_reply(
     a: MotionVector,
     b: MotionVector,
@@ -40,14 +34,10 @@ pub fn four_reply(
 ) -> Reply
     ensures { result ≡ motions_reply (FourMv a b c d) corner }
 {
-    match plane::motion_reply(a, corner) {
-        Reply::Refused(why) => Reply::Refused(why),
-        Reply::Done => {
-            let last = plane::motion_reply(d, block_corner(corner, 3));
-            let third = refusal::and_then(plane::motion_reply(c, block_corner(corner, 2)), last);
-            refusal::and_then(plane::motion_reply(b, block_corner(corner, 1)), third)
-        }
-    }
+    plane::motion_reply(a, corner)?;
+    plane::motion_reply(b, block_corner(corner, 1))?;
+    plane::motion_reply(c, block_corner(corner, 2))?;
+    plane::motion_reply(d, block_corner(corner, 3))
 }
 
 // 8 x 8 block k.
@@ -70,7 +60,7 @@ fn predict_block(
         width: 8,
         height: 8,
     };
-    crate::interpolate_block(samples, geometry, mode, site, v, rounding, out);
+    let _ = crate::interpolate_block(samples, geometry, mode, site, v, rounding, out);
 }
 
 // The four blocks, one after the other.
@@ -88,7 +78,6 @@ pub fn predict_four(
 {
     for k in 0..4 {
         let from = k * 64;
-        let to = from + 64;
         predict_block(
             samples,
             geometry,
@@ -97,7 +86,7 @@ pub fn predict_four(
             corner,
             k,
             rounding,
-            &mut out[from..to],
+            &mut out[from..from + 64],
         );
     }
 }
@@ -109,8 +98,7 @@ fn weave_part(blocks: &[u8], n: usize, out: &mut [u8])
 {
     let block = n % 2 + 2 * (n / 16);
     let at = 64 * block + 8 * (n / 2 % 8);
-    let end = at + 8;
-    plane::copy_samples(&blocks[at..end], out);
+    out.copy_from_slice(&blocks[at..at + 8]);
 }
 
 // The four blocks as one of 16 x 16.
@@ -120,7 +108,6 @@ pub fn weave(blocks: &[u8], out: &mut [u8])
 {
     for n in 0..32 {
         let from = n * 8;
-        let to = from + 8;
-        weave_part(blocks, n, &mut out[from..to]);
+        weave_part(blocks, n, &mut out[from..from + 8]);
     }
 }

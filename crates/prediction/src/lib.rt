@@ -5,7 +5,6 @@ ghost use Rattle.std.specs.Prelude.{◌≡◌, length};
 ghost use Rattle.refusal.specs.Reply.{done};
 ghost use Rattle.plane.specs.Plane.{plane_of};
 ghost use Rattle.plane.specs.Samples.{samples};
-ghost use Rattle.refusal.specs.declared.Reply.TheVariants.{Done};
 ghost use Rattle.prediction.specs.Luma.{mode_of, predicted_block, interpolation_reply, rounding_reply, predict_reply};
 ghost use Rattle.prediction.specs.Macroblock.{macroblock_luma, mode_reply, motions_reply, macroblock_reply};
 ghost use Rattle.prediction.specs.Chroma.{chroma_vector_of};
@@ -21,7 +20,7 @@ mod chroma;
 mod planes;
 
 // Vectors in half samples, or in quarter samples with the bits per pixel that their averages and filters are cut to.
-#[derive(Clone, Copy)]
+#[derive(Clone, Copy, Debug, PartialEq, Eq)]
 pub enum BVopSampleMode {
     HalfPel,
     QuarterPel(u32),
@@ -39,15 +38,16 @@ pub fn mode_of(mode: u32, bpp: u32) -> BVopSampleMode
 }
 
 // 31
+#[tactic(auto, unfolding(crate::specs::Luma::rounding_reply))]
 pub fn rounding_reply(rounding: u8) -> Reply
     ensures { result ≡ rounding_reply rounding }
 {
-    let known = refusal::between(0, 1, rounding as usize);
-    refusal::unless(known, Refusal::RoundingType, Reply::Done)
+    refusal::require(rounding <= 1, Refusal::RoundingType)
 }
 
 // A block of sides 8 or 16, by half or by quarter samples: 3 in quarter mode, then 4, 5, 8, 12, 14. The low bit of the rounding type
 // counts.
+#[tactic(auto, unfolding(crate::specs::Luma::predicted_block, half_sample::specs::Block::half_block, quarter_sample::specs::Block::quarter_block))]
 pub fn interpolate_block(
     samples: &[u8],
     geometry: Geometry,
@@ -72,6 +72,7 @@ pub fn interpolate_block(
 
 // Those of interpolation, of which nothing is done. Told by numbers, so that `plane::block_reply` keeps its one caller and is compiled
 // into it.
+#[tactic(auto, using(crate::proofs::Ready::interpolation_told))]
 fn interpolation_reply(
     geometry: Geometry,
     bytes: usize,
@@ -83,7 +84,8 @@ fn interpolation_reply(
     ensures { result ≡ interpolation_reply mode geometry bytes vector site area }
 {
     let corner = site.corner;
-    let block = plane::block_numbers_reply(
+    mode_reply(mode)?;
+    plane::block_numbers_reply(
         geometry.width,
         geometry.height,
         geometry.stride,
@@ -94,16 +96,11 @@ fn interpolation_reply(
         site.width,
         site.height,
         area,
-    );
-    match mode {
-        BVopSampleMode::HalfPel => block,
-        BVopSampleMode::QuarterPel(bpp) => {
-            refusal::and_then(quarter_sample::bits_reply(bpp), block)
-        }
-    }
+    )
 }
 
 // The luma of a block of sides 8 or 16: 3 in quarter mode, then 4, 5, 8, 12, 14, 31.
+#[tactic(auto, unfolding(crate::specs::Luma::predict_reply))]
 pub fn predict_luma_block(
     samples: &[u8],
     geometry: Geometry,
@@ -117,16 +114,16 @@ pub fn predict_luma_block(
     ensures out_after { out.new ≡ done result (predicted_block mode (plane_of samples.now geometry) site rounding vector) out.old }
 {
     match rounding_reply(rounding) {
-        Reply::Refused(why) => refusal::and_then(
-            interpolation_reply(geometry, samples.len(), mode, site, vector, out.len()),
-            Reply::Refused(why),
-        ),
-        Reply::Done => interpolate_block(samples, geometry, mode, site, vector, rounding, out),
+        Err(why) => {
+            interpolation_reply(geometry, samples.len(), mode, site, vector, out.len())?;
+            Err(why)
+        }
+        Ok(()) => interpolate_block(samples, geometry, mode, site, vector, rounding, out),
     }
 }
 
 // One vector for the macroblock, or one for each of its four 8 x 8 blocks, 0 and 1 above 2 and 3.
-#[derive(Clone, Copy)]
+#[derive(Clone, Copy, Debug, PartialEq, Eq)]
 pub enum PvopMbMotion {
     OneMv(MotionVector),
     FourMv(MotionVector, MotionVector, MotionVector, MotionVector),
@@ -137,7 +134,7 @@ fn mode_reply(mode: BVopSampleMode) -> Reply
     ensures { result ≡ mode_reply mode }
 {
     match mode {
-        BVopSampleMode::HalfPel => Reply::Done,
+        BVopSampleMode::HalfPel => Ok(()),
         BVopSampleMode::QuarterPel(bpp) => quarter_sample::bits_reply(bpp),
     }
 }
@@ -161,7 +158,7 @@ fn predict_ready(
     rounding: u8,
     out: &mut [u8],
 )
-    requires { macroblock_reply mode geometry (length samples.now) motion corner rounding (length out.old) ≡ Done }
+    requires { macroblock_reply mode geometry (length samples.now) motion corner rounding (length out.old) ≡ Ok tt }
     ensures { out.new ≡ macroblock_luma mode (plane_of samples.now geometry) motion corner rounding }
 {
     match motion {
@@ -171,7 +168,7 @@ fn predict_ready(
                 width: 16,
                 height: 16,
             };
-            interpolate_block(samples, geometry, mode, site, v, rounding, out);
+            let _ = interpolate_block(samples, geometry, mode, site, v, rounding, out);
         }
         PvopMbMotion::FourMv(a, b, c, d) => {
             let mut four = [0u8; 256];
@@ -190,6 +187,7 @@ fn predict_ready(
 }
 
 // The luma of a macroblock, row by row: 3 in quarter mode, then 4, 5, 8, 12, 31.
+#[tactic(auto, unfolding(crate::specs::Macroblock::macroblock_reply))]
 pub fn predict_luma_macroblock(
     samples: &[u8],
     geometry: Geometry,
@@ -202,43 +200,22 @@ pub fn predict_luma_macroblock(
     ensures value { result ≡ macroblock_reply mode geometry (length samples.now) motion corner rounding (length out.old) }
     ensures out_after { out.new ≡ done result (macroblock_luma mode (plane_of samples.now geometry) motion corner rounding) out.old }
 {
-    let last = refusal::and_then(
-        plane::length_reply(out.len(), 16, 16),
-        rounding_reply(rounding),
-    );
-    let third = refusal::and_then(motions_reply(motion, corner), last);
-    let second = refusal::and_then(plane::reference_reply(geometry, samples.len()), third);
-    let reply = refusal::and_then(mode_reply(mode), second);
-    match reply {
-        Reply::Refused(why) => Reply::Refused(why),
-        Reply::Done => {
-            predict_ready(samples, geometry, mode, motion, corner, rounding, out);
-            Reply::Done
-        }
-    }
-}
-
-// The reply, and the chroma vector, 0 where the call is refused.
-#[derive(Clone, Copy)]
-pub struct ChromaVector {
-    pub reply: Reply,
-    pub vector: MotionVector,
+    mode_reply(mode)?;
+    plane::reference_reply(geometry, samples.len())?;
+    motions_reply(motion, corner)?;
+    plane::length_reply(out.len(), 16, 16)?;
+    rounding_reply(rounding)?;
+    predict_ready(samples, geometry, mode, motion, corner, rounding, out);
+    Ok(())
 }
 
 // The vector of a macroblock's chroma, in half samples of chroma: 8.
-pub fn chroma_vector(mode: BVopSampleMode, motion: PvopMbMotion) -> ChromaVector
+#[tactic(auto, unfolding(crate::specs::Chroma::chroma_vector_of, crate::specs::Chroma::vectors_reply))]
+pub fn chroma_vector(mode: BVopSampleMode, motion: PvopMbMotion) -> Result<MotionVector, Refusal>
     ensures { result ≡ chroma_vector_of mode motion }
 {
-    match chroma::vectors_reply(motion) {
-        Reply::Refused(why) => ChromaVector {
-            reply: Reply::Refused(why),
-            vector: record::zero_vector(),
-        },
-        Reply::Done => ChromaVector {
-            reply: Reply::Done,
-            vector: chroma::vector_of(mode, motion),
-        },
-    }
+    chroma::vectors_reply(motion)?;
+    Ok(chroma::vector_of(mode, motion))
 }
 
 // What a record moves a macroblock by: its four vectors where the vector count is 4, else its one.
@@ -246,20 +223,22 @@ pub fn motion_of(count: u32, one: MotionVector, four: [MotionVector; 4]) -> Pvop
     ensures { result ≡ motion_of count one four }
 {
     if count == 4 {
-        return PvopMbMotion::FourMv(four[0], four[1], four[2], four[3]);
+        let [a, b, c, d] = four;
+        PvopMbMotion::FourMv(a, b, c, d)
+    } else {
+        PvopMbMotion::OneMv(one)
     }
-    PvopMbMotion::OneMv(one)
 }
 
 // Luma's sizes and stride, and the one stride of both chroma planes.
-#[derive(Clone, Copy)]
+#[derive(Clone, Copy, Debug, PartialEq, Eq)]
 pub struct ReferenceGeometry {
     pub luma: Geometry,
     pub chroma_stride: usize,
 }
 
 // How long three planes are, or a macroblock's three areas.
-#[derive(Clone, Copy)]
+#[derive(Clone, Copy, Debug, PartialEq, Eq)]
 pub struct PlaneLengths {
     pub y: usize,
     pub cb: usize,
@@ -267,19 +246,21 @@ pub struct PlaneLengths {
 }
 
 // 4 of any of the three planes, then 5 of any
+#[tactic(auto, unfolding(crate::specs::Planes::planes_reply))]
 pub fn planes_reply(geometry: ReferenceGeometry, n: PlaneLengths) -> Reply
     ensures { result ≡ planes_reply geometry n }
 {
     let luma = geometry.luma;
     let chroma = planes::chroma_geometry(geometry);
-    let red = plane::reference_bytes_reply(chroma, n.cr);
-    let blue = refusal::and_then(plane::reference_bytes_reply(chroma, n.cb), red);
-    let bytes = refusal::and_then(plane::reference_bytes_reply(luma, n.y), blue);
-    let sizes = refusal::and_then(plane::reference_size_reply(chroma), bytes);
-    refusal::and_then(plane::reference_size_reply(luma), sizes)
+    plane::reference_size_reply(luma)?;
+    plane::reference_size_reply(chroma)?;
+    plane::reference_bytes_reply(luma, n.y)?;
+    plane::reference_bytes_reply(chroma, n.cb)?;
+    plane::reference_bytes_reply(chroma, n.cr)
 }
 
 // 3 in quarter mode, then 4, 5, 8, 12, 31
+#[tactic(auto, unfolding(crate::specs::Prediction::prediction_reply))]
 fn prediction_reply(
     mode: BVopSampleMode,
     geometry: ReferenceGeometry,
@@ -291,43 +272,26 @@ fn prediction_reply(
 ) -> Reply
     ensures { result ≡ prediction_reply mode geometry reference motion place rounding out }
 {
-    let last = refusal::and_then(planes::samples_reply(out), rounding_reply(rounding));
-    let third = refusal::and_then(planes::place_reply(motion, place), last);
-    let second = refusal::and_then(planes_reply(geometry, reference), third);
-    refusal::and_then(mode_reply(mode), second)
+    mode_reply(mode)?;
+    planes_reply(geometry, reference)?;
+    planes::place_reply(motion, place)?;
+    planes::samples_reply(out)?;
+    rounding_reply(rounding)
 }
 
-// Luma as its mode has it, then Cb and Cr by the chroma vector.
-fn predict_planes(
-    reference_y: &[u8],
-    reference_cb: &[u8],
-    reference_cr: &[u8],
-    geometry: ReferenceGeometry,
-    mode: BVopSampleMode,
-    motion: PvopMbMotion,
-    place: MacroblockPlace,
-    rounding: u8,
-    y: &mut [u8],
-    cb: &mut [u8],
-    cr: &mut [u8],
-)
-    requires { let reference = samples reference_y.now reference_cb.now reference_cr.now in
-        let areas = samples y.old cb.old cr.old in
-        prediction_reply mode geometry (lengths_in reference) motion place rounding (lengths_in areas) ≡ Done }
-    ensures { let reference = samples reference_y.now reference_cb.now reference_cr.now in
-        let new = samples y.new cb.new cr.new in
-        new ≡ macroblock_prediction mode (planes_of reference geometry) motion place rounding }
+// How long each of three lists is.
+fn lengths(y: &[u8], cb: &[u8], cr: &[u8]) -> PlaneLengths
+    ensures { result ≡ lengths_in (samples y.now cb.now cr.now) }
 {
-    let luma = geometry.luma;
-    let chroma = planes::chroma_geometry(geometry);
-    let corner = planes::corner_at(16, place);
-    let vector = chroma::vector_of(mode, motion);
-    predict_ready(reference_y, luma, mode, motion, corner, rounding, y);
-    planes::predict_chroma(reference_cb, chroma, place, vector, rounding, cb);
-    planes::predict_chroma(reference_cr, chroma, place, vector, rounding, cr);
+    PlaneLengths {
+        y: y.len(),
+        cb: cb.len(),
+        cr: cr.len(),
+    }
 }
 
-// All 384 samples of a macroblock, each block row by row: 3 in quarter mode, then 4, 5, 8, 12, 31.
+// All 384 samples of a macroblock, each block row by row, luma as its mode has it, then Cb and Cr by the chroma vector: 3 in quarter
+// mode, then 4, 5, 8, 12, 31.
 pub fn predict_macroblock(
     reference_y: &[u8],
     reference_cb: &[u8],
@@ -347,33 +311,15 @@ pub fn predict_macroblock(
         (result ≡ prediction_reply mode geometry (lengths_in reference) motion place rounding (lengths_in old))
         × (new ≡ done result (macroblock_prediction mode (planes_of reference geometry) motion place rounding) old) }
 {
-    let reference = PlaneLengths {
-        y: reference_y.len(),
-        cb: reference_cb.len(),
-        cr: reference_cr.len(),
-    };
-    let out = PlaneLengths {
-        y: y.len(),
-        cb: cb.len(),
-        cr: cr.len(),
-    };
-    match prediction_reply(mode, geometry, reference, motion, place, rounding, out) {
-        Reply::Refused(why) => Reply::Refused(why),
-        Reply::Done => {
-            predict_planes(
-                reference_y,
-                reference_cb,
-                reference_cr,
-                geometry,
-                mode,
-                motion,
-                place,
-                rounding,
-                y,
-                cb,
-                cr,
-            );
-            Reply::Done
-        }
-    }
+    let reference = lengths(reference_y, reference_cb, reference_cr);
+    let out = lengths(y, cb, cr);
+    prediction_reply(mode, geometry, reference, motion, place, rounding, out)?;
+    let luma = geometry.luma;
+    let chroma = planes::chroma_geometry(geometry);
+    let corner = planes::corner_at(16, place);
+    let vector = chroma::vector_of(mode, motion);
+    predict_ready(reference_y, luma, mode, motion, corner, rounding, y);
+    planes::predict_chroma(reference_cb, chroma, place, vector, rounding, cb);
+    planes::predict_chroma(reference_cr, chroma, place, vector, rounding, cr);
+    Ok(())
 }

@@ -1,15 +1,14 @@
 // The reference's three planes, and a macroblock's chroma blocks predicted from them.
 ghost use Rattle.std.specs.Prelude.{◌≡◌, ◌≤◌, length};
-ghost use Rattle.refusal.specs.declared.Reply.TheVariants.{Done};
 ghost use Rattle.plane.specs.Plane.{plane_of};
 ghost use Rattle.plane.specs.Corner.{corner_of, corner_at, square_at};
 ghost use Rattle.plane.specs.Reference.{block_reply};
 ghost use Rattle.half_sample.specs.Block.{half_block};
 ghost use Rattle.prediction.specs.Macroblock.{motions_reply};
 ghost use Rattle.prediction.specs.Planes.{chroma_geometry};
-ghost use Rattle.prediction.specs.Prediction.{samples_reply, prediction_reply};
+ghost use Rattle.prediction.specs.Prediction.{samples_reply};
 
-use crate::{BVopSampleMode, PlaneLengths, PvopMbMotion, ReferenceGeometry};
+use crate::{PlaneLengths, PvopMbMotion, ReferenceGeometry};
 use plane::{Geometry, MacroblockPlace, Point, Site};
 use record::MotionVector;
 use refusal::{Refusal, Reply};
@@ -41,11 +40,8 @@ pub fn corner_at(side: usize, place: MacroblockPlace) -> Point
 pub fn place_reply(motion: PvopMbMotion, place: MacroblockPlace) -> Reply
     ensures { result ≡ motions_reply motion (corner_of place) }
 {
-    if place.column > 256 {
-        return Reply::Refused(Refusal::Place);
-    }
-    if place.row > 256 {
-        return Reply::Refused(Refusal::Place);
+    if place.column > 256 || place.row > 256 {
+        return Err(Refusal::Place);
     }
     crate::motions_reply(motion, corner_at(16, place))
 }
@@ -54,12 +50,7 @@ pub fn place_reply(motion: PvopMbMotion, place: MacroblockPlace) -> Reply
 pub fn samples_reply(n: PlaneLengths) -> Reply
     ensures { result ≡ samples_reply n }
 {
-    let chroma = refusal::both(n.cb == 64, n.cr == 64);
-    refusal::unless(
-        refusal::both(n.y == 256, chroma),
-        Refusal::Length,
-        Reply::Done,
-    )
+    refusal::require(n.y == 256 && n.cb == 64 && n.cr == 64, Refusal::Length)
 }
 
 // An 8 x 8 chroma block: by half samples, whatever luma's mode is.
@@ -71,14 +62,13 @@ pub fn predict_chroma(
     rounding: u8,
     out: &mut [u8],
 )
-    requires { block_reply geometry (length samples.now) vector (square_at (corner_at 8 place) 8) (length out.old) ≡ Done }
+    requires { block_reply geometry (length samples.now) vector (square_at (corner_at 8 place) 8) (length out.old) ≡ Ok tt }
     ensures { out.new ≡ half_block (plane_of samples.now geometry) (square_at (corner_at 8 place) 8) vector rounding }
 {
-    let units = BVopSampleMode::HalfPel;
     let site = Site {
         corner: corner_at(8, place),
         width: 8,
         height: 8,
     };
-    crate::interpolate_block(samples, geometry, units, site, vector, rounding, out);
+    let _ = half_sample::interpolate_block_into(samples, geometry, site, vector, rounding, out);
 }

@@ -10,13 +10,14 @@ use lib.ListN.{length, get_or}
 use borrow.Author.Tests.{eqb-true, eq-eqb}
 use Rattle.basis.proofs.Case.{both}
 use Rattle.refusal.specs.declared.Refusal.TheVariants.{Quantiser, Weight, Length, Range}
-use Rattle.refusal.specs.declared.Reply.TheVariants.{Done}
+use Rattle.std.specs.Prelude.{Ok}
 use Rattle.refusal.specs.Reply.{unless}
 use Rattle.refusal.specs.Test.{between, in_range, all_in_range}
 use Rattle.refusal.proofs.Every.{every_at}
 use Rattle.refusal.proofs.Replies.{first_done, then_done, unless-done, after, passed, both_done}
 use Rattle.refusal.proofs.Tests.{and_left, and_right, between-low, between-high}
 use Rattle.quantise.specs.Block.{no_zero, weight_reply, quantise_reply, inverse_reply}
+use Rattle.quantise.specs.Told.{BlockNeeds, InverseNeeds}
 use Rattle.refusal.proofs.Tests.{size_in}
 
 not_zero : (w : ℕ) → not (eqb w 0) ≡ true → 1 ≤ w
@@ -38,14 +39,14 @@ pub record Sound (fs : List ℤ) (q : ℕ) (weights : List ℕ) (n : ℕ) : Type
   pub ranged : (i : ℕ) → i < 64 → in_range (negsuc 2047) (pos 2047) (get_or fs i (pos 0)) ≡ true
 
 -- quantiser and weights that are taken
-module _ (q : ℕ) (first : Bool) (weights : List ℕ) (e : weight_reply q first weights ≡ Done) where
+module _ (q : ℕ) (first : Bool) (weights : List ℕ) (e : weight_reply q first weights ≡ Ok tt) where
   quantiser_in : between 1 31 q ≡ true
   unfolding weight_reply
-  quantiser_in = unless-done (between 1 31 q) Quantiser (unless (not first || no_zero weights) Weight Done) e
+  quantiser_in = unless-done (between 1 31 q) Quantiser (unless (not first || no_zero weights) Weight (Ok tt)) e
 
   weights_serve : (not first || no_zero weights) ≡ true
   unfolding weight_reply
-  weights_serve = unless-done (not first || no_zero weights) Weight Done (after (between 1 31 q) Quantiser (unless (not first || no_zero weights) Weight Done) e)
+  weights_serve = unless-done (not first || no_zero weights) Weight (Ok tt) (after (between 1 31 q) Quantiser (unless (not first || no_zero weights) Weight (Ok tt)) e)
 
   pub quantiser_low : 1 ≤ q
   quantiser_low = between-low 1 31 q quantiser_in
@@ -53,16 +54,16 @@ module _ (q : ℕ) (first : Bool) (weights : List ℕ) (e : weight_reply q first
   pub quantiser_high : q ≤ 31
   quantiser_high = between-high 1 31 q quantiser_in
 
-module _ (fs : List ℤ) (q : ℕ) (first : Bool) (weights : List ℕ) (n : ℕ) (e : quantise_reply fs q first weights n ≡ Done) where
+module _ (fs : List ℤ) (q : ℕ) (first : Bool) (weights : List ℕ) (n : ℕ) (e : quantise_reply fs q first weights n ≡ Ok tt) where
   -- the tests that were passed, one after the other
   abbrev long_tests : Bool
   long_tests = eqb (length fs) 64 && (eqb (length weights) 64 && eqb n 64)
 
-  weighed : weight_reply q first weights ≡ Done
+  weighed : weight_reply q first weights ≡ Ok tt
   unfolding quantise_reply
   weighed = first_done (weight_reply q first weights) _ e
 
-  past_weight : unless long_tests Length (unless (all_in_range (negsuc 2047) (pos 2047) fs) Range Done) ≡ Done
+  past_weight : unless long_tests Length (unless (all_in_range (negsuc 2047) (pos 2047) fs) Range (Ok tt)) ≡ Ok tt
   unfolding quantise_reply
   past_weight = then_done (weight_reply q first weights) _ e
 
@@ -73,7 +74,7 @@ module _ (fs : List ℤ) (q : ℕ) (first : Bool) (weights : List ℕ) (n : ℕ)
   sound =
       let long : length fs ≡ 64 = eqb-true _ 64 (and_left (eqb (length fs) 64) _ sizes) in
       let areas = and_right (eqb (length fs) 64) _ sizes in
-      let range = unless-done (all_in_range (negsuc 2047) (pos 2047) fs) Range Done (after long_tests Length _ past_weight) in
+      let range = unless-done (all_in_range (negsuc 2047) (pos 2047) fs) Range (Ok tt) (after long_tests Length _ past_weight) in
       let ranged : (i : ℕ) → i < 64 → in_range (negsuc 2047) (pos 2047) (get_or fs i (pos 0)) ≡ true =
       λ i h. every_at (in_range (negsuc 2047) (pos 2047)) fs i (pos 0) range (omega arith) in
       record {
@@ -92,8 +93,8 @@ module _ (fs : List ℤ) (q : ℕ) (first : Bool) (weights : List ℕ) (n : ℕ)
       not_zero _ (every_at (λ (w : ℕ). not (eqb w 0)) weights i 0 serve (omega (arith, sound.weights_long)))
 
 -- 64 coefficients in range are not turned back where quantiser and weights are not
-pub quantise_ready : (fs : List ℤ) (q : ℕ) (first : Bool) (weights : List ℕ) → weight_reply q first weights ≡ Done
-    → length fs ≡ 64 → length weights ≡ 64 → all_in_range (negsuc 2047) (pos 2047) fs ≡ true → quantise_reply fs q first weights 64 ≡ Done
+pub quantise_ready : (fs : List ℤ) (q : ℕ) (first : Bool) (weights : List ℕ) → weight_reply q first weights ≡ Ok tt
+    → length fs ≡ 64 → length weights ≡ 64 → all_in_range (negsuc 2047) (pos 2047) fs ≡ true → quantise_reply fs q first weights 64 ≡ Ok tt
 unfolding quantise_reply
 quantise_ready fs q first weights w long weights_long small =
     both_done w
@@ -108,13 +109,13 @@ pub record SoundInverse (levels : List ℤ) (q n : ℕ) : Type 0 where
   pub area_long : n ≡ 64
   pub small : (i : ℕ) → i < 64 → nat_abs (get_or levels i (pos 0)) ≤ 2047
 
-pub sound_inverse : (levels : List ℤ) (q n : ℕ) → inverse_reply levels q n ≡ Done → SoundInverse levels q n
+pub sound_inverse : (levels : List ℤ) (q n : ℕ) → inverse_reply levels q n ≡ Ok tt → SoundInverse levels q n
 unfolding inverse_reply
 sound_inverse levels q n e =
     let scale = unless-done (between 1 31 q) Quantiser _ e in
     let past = after (between 1 31 q) Quantiser _ e in
     let sizes = unless-done (eqb (length levels) 64 && eqb n 64) Length _ past in
-    let range = unless-done (all_in_range (negsuc 2046) (pos 2047) levels) Range Done (after (eqb (length levels) 64 && eqb n 64) Length _ past) in
+    let range = unless-done (all_in_range (negsuc 2046) (pos 2047) levels) Range (Ok tt) (after (eqb (length levels) 64 && eqb n 64) Length _ past) in
     let long : length levels ≡ 64 = eqb-true _ 64 (and_left (eqb (length levels) 64) (eqb n 64) sizes) in
     record {
       low = between-low 1 31 q scale;
@@ -123,3 +124,22 @@ sound_inverse levels q n e =
       area_long = eqb-true _ 64 (and_right (eqb (length levels) 64) (eqb n 64) sizes);
       small = λ i h. size_in 2046 2047 (get_or levels i (pos 0)) (every_at (in_range (negsuc 2046) (pos 2047)) levels i (pos 0) range (omega arith)) (omega arith);
     }
+
+-- what the private functions need, as contracts say it
+pub block_needs : (fs : List ℤ) (q : ℕ) (first : Bool) (weights : List ℕ) (n : ℕ) → quantise_reply fs q first weights n ≡ Ok tt → BlockNeeds fs q first weights n
+block_needs fs q first weights n e =
+    let s = sound fs q first weights n e in
+    record {
+      quantiser_some = s.low;
+      quantiser_most = s.high;
+      long = s.long;
+      weights_long = s.weights_long;
+      area_long = s.area_long;
+      small = s.small;
+      weight_some = weight_some fs q first weights n e;
+    }
+
+pub inverse_needs : (levels : List ℤ) (q n : ℕ) → inverse_reply levels q n ≡ Ok tt → InverseNeeds levels q n
+inverse_needs levels q n e =
+    let s = sound_inverse levels q n e in
+    record { quantiser_some = s.low; quantiser_most = s.high; long = s.long; area_long = s.area_long; small = s.small }

@@ -1,5 +1,6 @@
 -- The law of `specs/Near`: every level of the second method is near its coefficient. On sizes first, and then with the sign.
 -- Assumes nothing.
+use Rattle.refusal.specs.Reply.{done}
 use Prim.Native.Nat.{ℕ, zero, suc, ◌+◌, ◌*◌, ◌-◌, ◌/◌, ◌%◌, ◌≤◌, ◌<◌, min}
 use native.Mathlib.Nat.{div-mul-le_self, lt-div-mul-add, mul-le-mul_left}
 use native.Mathlib.Omega.{arith}
@@ -14,7 +15,7 @@ use Rattle.basis.specs.Parts.{above, below}
 use Rattle.basis.proofs.Case.{else}
 use Rattle.basis.proofs.Lists.{get_or-tabulate}
 use Rattle.basis.proofs.Parts.{above-sub, below_sub, above-neg, below-neg, size_parts}
-use Rattle.refusal.specs.declared.Reply.TheVariants.{Done}
+use Rattle.std.specs.Prelude.{Ok}
 use Rattle.refusal.specs.Test.{in_range}
 use Rattle.refusal.proofs.Tests.{range-low, range-high}
 use Rattle.quantise.specs.Block.{level_at, block_levels, quantise_reply}
@@ -144,7 +145,7 @@ near q f range low =
     none (negsuc a) = refl
 
 -- each level of a block that is not turned back
-pub near_all : (fs : List ℤ) (q : ℕ) (weights : List ℕ) (n : ℕ) → quantise_reply fs q false weights n ≡ Done
+pub near_all : (fs : List ℤ) (q : ℕ) (weights : List ℕ) (n : ℕ) → quantise_reply fs q false weights n ≡ Ok tt
     → NearAll q fs (block_levels false q weights fs)
 unfolding block_levels
 near_all fs q weights n e =
@@ -156,7 +157,7 @@ near_all fs q weights n e =
     }
 
 -- the same, where a test has told that the method is the second
-pub near_by_method : (fs : List ℤ) (q : ℕ) (first : Bool) (weights : List ℕ) (n : ℕ) → first ≡ false → quantise_reply fs q first weights n ≡ Done
+pub near_by_method : (fs : List ℤ) (q : ℕ) (first : Bool) (weights : List ℕ) (n : ℕ) → first ≡ false → quantise_reply fs q first weights n ≡ Ok tt
     → NearAll q fs (block_levels first q weights fs)
 near_by_method fs q true weights n e done = absurd (true≢false e)
 near_by_method fs q false weights n e done = near_all fs q weights n done

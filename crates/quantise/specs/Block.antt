@@ -3,11 +3,12 @@
 use Rattle.std.specs.Prelude.{ℕ, Bool, cond, not, ◌&&◌, ◌||◌, List, eqb, ℤ, pos, negsuc, length, get_or}
 use Rattle.basis.specs.Lists.{tabulate}
 use Rattle.refusal.specs.declared.Refusal.TheVariants.{Quantiser, Weight, Length, Range}
-use Rattle.refusal.specs.declared.Reply.{Reply}
-use Rattle.refusal.specs.declared.Reply.TheVariants.{Done}
+use Rattle.refusal.specs.Reply.{Reply}
+use Rattle.std.specs.Prelude.{Ok}
 use Rattle.refusal.specs.Reply.{unless, and_then}
 use Rattle.refusal.specs.Bounds.{is_quantiser}
-use Rattle.refusal.specs.Test.{every, all_in_range}
+use Rattle.std.specs.List.{list_all}
+use Rattle.refusal.specs.Test.{all_in_range}
 use Rattle.quantise.specs.Level.{level_by_quantiser, level_by_weight, inverse_by_quantiser}
 
 -- the level at place i, by the first method where `first` is true
@@ -35,22 +36,22 @@ block_inverse inverse levels = tabulate 64 (inverse_at inverse levels)
 
 -- the first method wants weights that are not 0
 abbrev pub no_zero : List ℕ → Bool
-no_zero weights = every (λ w. not (eqb w 0)) weights
+no_zero weights = list_all (λ w. not (eqb w 0)) weights
 
 -- 10: quantiser not 1..31. 11: first method, a zero weight
 unfoldable pub weight_reply : ℕ → Bool → List ℕ → Reply
-weight_reply q first weights = unless (is_quantiser q) Quantiser (unless (not first || no_zero weights) Weight Done)
+weight_reply q first weights = unless (is_quantiser q) Quantiser (unless (not first || no_zero weights) Weight (Ok tt))
 
 -- 10, 11, 12, 13, of coefficients, the quantiser, the method, weights, and an output area of n places
 unfoldable pub quantise_reply : List ℤ → ℕ → Bool → List ℕ → ℕ → Reply
 quantise_reply fs q first weights n =
     and_then (weight_reply q first weights)
     (unless (eqb (length fs) 64 && (eqb (length weights) 64 && eqb n 64)) Length
-    (unless (all_in_range (negsuc 2047) (pos 2047) fs) Range Done))
+    (unless (all_in_range (negsuc 2047) (pos 2047) fs) Range (Ok tt)))
 
 -- 10, 12, 13, of levels, the quantiser, and an output area of n places
 unfoldable pub inverse_reply : List ℤ → ℕ → ℕ → Reply
 inverse_reply levels q n =
     unless (is_quantiser q) Quantiser
     (unless (eqb (length levels) 64 && eqb n 64) Length
-    (unless (all_in_range (negsuc 2046) (pos 2047) levels) Range Done))
+    (unless (all_in_range (negsuc 2046) (pos 2047) levels) Range (Ok tt)))

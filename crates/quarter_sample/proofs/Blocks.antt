@@ -37,12 +37,10 @@ buffer_copy rc max w h fx fy r block rest a b p q e =
     ∙ get_or-raster (w + 1) (h + 1) r x y 0 px py)
     fx fy p q)
 
--- two steps at the fractions of a place
-pub place_by_steps : (rc max w h fx fy n : ℕ) (s : Source) (out : List ℕ) → fx < 4 → fy < 4 → n ≡ fx + 4 * fy
-    → out ≡ raster w h (step_both rc max fx fy s) → out ≡ raster w h (place rc max s n)
-place_by_steps rc max w h fx fy n s out p q e o =
-    o ∙ raster_cong w h (step_both rc max fx fy s) (place rc max s n)
-    (λ i j a b. two_steps rc max s i j fx fy p q ∙ ap (λ (m : ℕ). place rc max s m i j) (sym e))
+-- two steps are the place of their fractions
+pub place_by_steps : (rc max w h fx fy : ℕ) (s : Source) → fx < 4 → fy < 4 → raster w h (step_both rc max fx fy s) ≡ raster w h (place rc max s (fx + 4 * fy))
+place_by_steps rc max w h fx fy s p q =
+    raster_cong w h (step_both rc max fx fy s) (place rc max s (fx + 4 * fy)) (λ i j a b. two_steps rc max s i j fx fy p q)
 
 module _ (rc max w h : ℕ) (block : List ℕ) where
   -- the whole samples

@@ -1,39 +1,20 @@
 -- The buffers that the passes fill, and what a filter leaves of one in a long row. Assumes nothing.
-use Prim.Native.Nat.{ℕ, zero, suc, ◌+◌, ◌*◌, ◌<◌, ◌≤◌}
+use Prim.Native.Nat.{ℕ, zero, suc, ◌+◌, ◌*◌, ◌/◌, ◌<◌, ◌≤◌}
 use native.Mathlib.Nat.{zero-add, zero-mul}
 use native.Mathlib.Omega.{arith}
 use mathlib.Core.Path.{◌≡◌, refl, sym, ap, ap₂, ◌∙◌}
 use mathlib.Core.List.{List, ◌++◌}
 use lib.IntN.{pos, ◌-ℤ◌}
-use lib.ListN.{length, get_or, take, drop, length-append, length-take, length-drop, get_or-append}
+use lib.ListN.{length, get_or, get_or-append}
 use Rattle.basis.specs.Lists.{tabulate, rows, raster}
-use Rattle.basis.proofs.Bounds.{row_before}
+use Rattle.basis.proofs.Bounds.{row_before, product_le}
 use Rattle.basis.proofs.Lists.{length-tabulate, get_or-tabulate, tabulate_cong, tabulate_same, tabulate_join, raster_cong, length-raster, get_or-raster}
 use Rattle.quarter_sample.specs.Filter.{mirror}
 use Rattle.quarter_sample.specs.Places.{tap}
-use Rattle.quarter_sample.specs.ToldPasses.{mix_taps, mix_rows, spaced_at, step, reflected, row_line, column_line, TapsFit}
+use Rattle.quarter_sample.specs.ToldPasses.{mix_taps, mix_rows, spaced_at, step, reflected, row_line, column_line}
 use Rattle.quarter_sample.specs.ToldPasses.{extended_rows, taken_rows, mirrored_rows, rows_at, columns_at, Filtered}
 use Rattle.quarter_sample.proofs.Lines.{taps-step}
 use Rattle.quarter_sample.proofs.Reflection.{mirror_mid, mirror-below}
-
--- rows that are made of n samples each are n long
-row_fits : (n : ℕ) (f : ℕ → ℕ) (t : List ℕ) → t ≡ tabulate n f → length t ≡ n
-row_fits n f t e = ap length e ∙ length-tabulate n f
-
-pub taps_fit : (n : ℕ) (f0 f1 f2 f3 f4 f5 f6 f7 : ℕ → ℕ) (t0 t1 t2 t3 t4 t5 t6 t7 : List ℕ)
-    → t0 ≡ tabulate n f0 → t1 ≡ tabulate n f1 → t2 ≡ tabulate n f2 → t3 ≡ tabulate n f3
-    → t4 ≡ tabulate n f4 → t5 ≡ tabulate n f5 → t6 ≡ tabulate n f6 → t7 ≡ tabulate n f7 → TapsFit t0 t1 t2 t3 t4 t5 t6 t7 n
-taps_fit n f0 f1 f2 f3 f4 f5 f6 f7 t0 t1 t2 t3 t4 t5 t6 t7 e0 e1 e2 e3 e4 e5 e6 e7 =
-    record {
-      fits0 = row_fits n f0 t0 e0;
-      fits1 = row_fits n f1 t1 e1;
-      fits2 = row_fits n f2 t2 e2;
-      fits3 = row_fits n f3 t3 e3;
-      fits4 = row_fits n f4 t4 e4;
-      fits5 = row_fits n f5 t5 e5;
-      fits6 = row_fits n f6 t6 e6;
-      fits7 = row_fits n f7 t7 e7;
-    }
 
 -- a row between three samples of its reflection on either side
 pub extended : (row x z : List ℕ) (m : ℕ) → m ≡ 3 + length row + 3 → x ≡ tabulate 3 (λ k. reflected row (0 + k))
@@ -137,14 +118,16 @@ module _ (w m rc max fraction : ℕ) (block x rest : List ℕ) (fits : m * (w + 
       let b : j * (w + 7) + (w + 7) ≤ m * (w + 7) = row_before (w + 7) q in
       get_or-append x rest 0 (j * (w + 7) + i) (omega (arith, b, fits)) ∙ f i j p q
 
-  pub taken : (s v : ℕ) (all out : List ℕ) → s ≡ w + 7 → v ≡ w → all ≡ x ++ rest → out ≡ taken_rows s v m all → out ≡ rows_at w m rc max fraction block
-  taken s v all out es ev ea o =
-      o ∙ ap₂ (λ (y z : ℕ). taken_rows y z m all) es ev ∙ ap (taken_rows (w + 7) w m) ea
-      ∙ raster_cong w m (λ i j. get_or (x ++ rest) (j * (w + 7) + i) 0) (λ i j. step rc max fraction (row_line block (w + 1) j) i) still_filtered
+  pub taken : taken_rows (w + 7) w m (x ++ rest) ≡ rows_at w m rc max fraction block
+  taken = raster_cong w m (λ i j. get_or (x ++ rest) (j * (w + 7) + i) 0) (λ i j. step rc max fraction (row_line block (w + 1) j) i) still_filtered
 
--- a list whose first part was lent has its length again
-pub put_back : (x l : List ℕ) (n : ℕ) → length x ≡ length (take n l) → length (x ++ drop n l) ≡ length l
-put_back x l n e = length-append x (drop n l) ∙ omega (arith, e, length-take n l, length-drop n l)
+-- a long row of a block's rows, rounded up to sixteens, fits its buffer
+pub rounded_up : (w rows : ℕ) → w ≤ 16 → rows ≤ 17
+    → let n = rows * (w + 7) in (n ≤ (n + 15) / 16 * 16) × ((n + 15) / 16 * 16 ≤ 400)
+rounded_up w rows h k =
+    let wide : w + 7 ≤ 23 = omega arith in
+    let short : rows * (w + 7) ≤ 17 * 23 = product_le k wide in
+    (omega arith, omega (arith, short))
 
 -- mirrored rows, filtered in one long row with taps a row apart, are the columns at the fraction
 module _ (rc max fraction w h stride : ℕ) (src rest : List ℕ) where

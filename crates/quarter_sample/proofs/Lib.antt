@@ -1,9 +1,9 @@
 pub mod Answers
-pub mod Reflection
-pub mod Weights
-pub mod Lines
-pub mod Buffers
-pub mod Rules
 pub mod Blocks
+pub mod Buffers
+pub mod Lines
+pub mod Reflection
+pub mod Rules
 pub mod Sixteen
+pub mod Weights
 pub mod Whole

@@ -2,8 +2,8 @@
 use Rattle.std.specs.Prelude.{ℕ, ◌+◌, ◌*◌, ◌%◌, List, ◌+ℤ◌}
 use Rattle.basis.specs.Lists.{raster}
 use Rattle.refusal.specs.declared.Refusal.TheVariants.{BitsPerPixel}
-use Rattle.refusal.specs.declared.Reply.{Reply}
-use Rattle.refusal.specs.declared.Reply.TheVariants.{Done}
+use Rattle.refusal.specs.Reply.{Reply}
+use Rattle.std.specs.Prelude.{Ok}
 use Rattle.refusal.specs.Reply.{unless, and_then}
 use Rattle.refusal.specs.Bounds.{is_bits}
 use Rattle.record.specs.declared.MotionVector.{MotionVector}
@@ -30,7 +30,7 @@ quarter_block p site v rounding bpp = raster site.width site.height (quarter_sam
 
 -- 3: bits per pixel outside 1..8
 abbrev pub bits_reply : ℕ → Reply
-bits_reply bpp = unless (is_bits bpp) BitsPerPixel Done
+bits_reply bpp = unless (is_bits bpp) BitsPerPixel (Ok tt)
 
 -- 3, then 4, 5, 8, 12, 14
 unfoldable pub quarter_reply : ℕ → Geometry → ℕ → MotionVector → Site → ℕ → Reply

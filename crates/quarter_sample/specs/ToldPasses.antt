@@ -1,14 +1,11 @@
--- Told, not believed: the two passes over a copied block, one an axis, where that block starts, and what the passes need.
-use Rattle.std.specs.Prelude.{ℕ, ◌+◌, ◌*◌, ◌<◌, ◌≤◌, cond, List, ◌≡◌, eqb, ℤ, pos, ◌+ℤ◌, ◌-ℤ◌, length, get_or}
+-- Told, not believed: the two passes over a copied block, one an axis, and what they need.
+use Rattle.std.specs.Prelude.{ℕ, ◌+◌, ◌*◌, ◌<◌, ◌≤◌, cond, List, ◌≡◌, eqb, ℤ, pos, ◌-ℤ◌, length, get_or}
 use Rattle.basis.specs.Lists.{raster}
-use Rattle.refusal.specs.declared.Reply.TheVariants.{Done}
+use Rattle.std.specs.Prelude.{Ok}
 use Rattle.record.specs.declared.MotionVector.{MotionVector}
 use Rattle.plane.specs.declared.Geometry.{Geometry}
-use Rattle.plane.specs.declared.Point.{Point}
 use Rattle.plane.specs.declared.Site.{Site}
 use Rattle.plane.specs.Reference.{block_reply}
-use Rattle.quarter_sample.specs.declared.Start.{Start}
-use Rattle.quarter_sample.specs.Split.{split_quarter}
 use Rattle.quarter_sample.specs.Filter.{mirror, fir, average}
 use Rattle.quarter_sample.specs.Places.{Source, halfway, mirrored, place}
 
@@ -104,18 +101,11 @@ place_at w h rc max n block = raster w h (place rc max (block_source w h block) 
 abbrev pub whole_at : ℕ → ℕ → List ℕ → List ℕ
 whole_at w h block = raster w h (λ (i j : ℕ). get_or block (j * (w + 1) + i) 0)
 
--- where the copied block starts, and the place within it
-abbrev pub start_of : Point → MotionVector → Start
-start_of corner v =
-    let x = split_quarter v.x in
-    let y = split_quarter v.y in
-    record { at = record { x = corner.x +ℤ x.whole; y = corner.y +ℤ y.whole }; fractions = x.fraction + 4 * y.fraction }
-
 -- a block that nothing turns back
 pub record Interpolable (g : Geometry) (bytes : ℕ) (site : Site) (v : MotionVector) (bpp area : ℕ) : Type 0 where
   pub some_bits : 1 ≤ bpp
   pub few_bits : bpp ≤ 8
-  pub ready : block_reply g bytes v site area ≡ Done
+  pub ready : block_reply g bytes v site area ≡ Ok tt
 
 -- eight rows of n samples
 pub record TapsFit (t0 t1 t2 t3 t4 t5 t6 t7 : List ℕ) (n : ℕ) : Type 0 where

@@ -1,10 +1,11 @@
 // Reflected indices, and the filter between two samples of a line, on whole rows of taps.
-ghost use Rattle.std.specs.Prelude.{◌≡◌, ◌+◌, ◌-◌, ◌<◌, ◌≤◌, min, pos, ◌-ℤ◌, length};
+ghost use Rattle.std.specs.Prelude.{◌≡◌, ◌+◌, ◌<◌, ◌≤◌, pos, ◌-ℤ◌, length};
 ghost use Rattle.basis.specs.Lists.{tabulate};
 ghost use Rattle.quarter_sample.specs.Filter.{mirror, fir, average, largest};
 ghost use Rattle.quarter_sample.specs.ToldPasses.{fir_rows, near_rows, mix_rows, TapsFit};
 
 // The place that index u - 3 of a side of `size` reads.
+#[tactic(auto, unfolding(crate::specs::Filter::mirror))]
 pub fn mirror_index(u: usize, size: usize) -> usize
     requires { (3 ≤ size) × (size ≤ 17) × (u < size + 6) }
     ensures { result ≡ mirror size (pos u -ℤ pos 3) }
@@ -22,70 +23,35 @@ pub fn largest_sample(bpp: u32) -> u8
     requires { (1 ≤ bpp) × (bpp ≤ 8) }
     ensures { result ≡ largest bpp }
 {
-    match bpp {
-        1 => 1,
-        2 => 3,
-        3 => 7,
-        4 => 15,
-        5 => 31,
-        6 => 63,
-        7 => 127,
-        _ => 255,
-    }
-}
-
-// What one number has above another, and 0 where it has nothing.
-fn excess(up: u16, down: u16) -> u16
-    ensures { result ≡ up - down }
-{
-    if up < down {
-        return 0;
-    }
-    up - down
-}
-
-fn to_byte(n: u16) -> u8
-    ensures { result ≡ min n 255 }
-{
-    if 255 < n {
-        return 255;
-    }
-    n as u8
-}
-
-fn smaller(x: u8, y: u8) -> u8
-    ensures { result ≡ min x y }
-{
-    if y < x {
-        return y;
-    }
-    x
+    ((1u16 << bpp) - 1) as u8
 }
 
 // The weights are taken as eighths, so that 16 bits hold the sums; those below 0 are summed apart. The result is cut to a byte before
 // it is cut to the largest sample: vectors have an instruction for either.
+#[tactic(auto, using(crate::proofs::Weights::fir_eighths))]
 fn fir(s0: u8, s1: u8, s2: u8, s3: u8, s4: u8, s5: u8, s6: u8, s7: u8, rc: u8, max: u8) -> u8
     requires { rc ≤ 1 }
     ensures { result ≡ fir rc max s0 s1 s2 s3 s4 s5 s6 s7 }
 {
-    let up = 20 * (s3 as u16 + s4 as u16) + 3 * (s1 as u16 + s6 as u16) + (16 - rc as u16);
-    let down = 6 * (s2 as u16 + s5 as u16) + (s0 as u16 + s7 as u16);
-    smaller(to_byte(excess(up, down) / 32), max)
+    let up = 20 * (u16::from(s3) + u16::from(s4))
+        + 3 * (u16::from(s1) + u16::from(s6))
+        + (16 - u16::from(rc));
+    let down = 6 * (u16::from(s2) + u16::from(s5)) + (u16::from(s0) + u16::from(s7));
+    let byte = (up.saturating_sub(down) / 32).min(255) as u8;
+    byte.min(max)
 }
 
 fn average(x: u8, y: u8, rc: u8, max: u8) -> u8
     requires { rc ≤ 1 }
     ensures { result ≡ average rc max x y }
 {
-    let mean = (x as u16 + y as u16 + 1 - rc as u16) / 2;
-    if (max as u16) < mean {
-        return max;
-    }
-    mean as u8
+    let mean = (u16::from(x) + u16::from(y) + 1 - u16::from(rc)) / 2;
+    mean.min(u16::from(max)) as u8
 }
 
 // Eight rows, one a tap, give the row half a sample on. What the loop rounds by and cuts to comes as numbers of their own and not in
 // a struct: read out of one, the loop's sums are arranged otherwise, and fewer are done at once.
+#[tactic(auto, using(basis::proofs::Lists::filled_none, basis::proofs::Lists::filled_set))]
 fn half_taps(
     t0: &[u8],
     t1: &[u8],
@@ -113,6 +79,7 @@ fn half_taps(
 }
 
 // The same, averaged with the row before it or after it.
+#[tactic(auto, using(basis::proofs::Lists::filled_none, basis::proofs::Lists::filled_set))]
 fn near_taps(
     t0: &[u8],
     t1: &[u8],

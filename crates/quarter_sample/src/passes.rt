@@ -2,7 +2,7 @@
 // a buffer and filters it in one long row, so that a loop is set up once a pass and not once a row.
 ghost use Rattle.std.specs.Prelude.{◌≡◌, ◌+◌, ◌*◌, ◌<◌, ◌≤◌, length, get_or};
 ghost use Rattle.basis.specs.Lists.{tabulate};
-ghost use Rattle.quarter_sample.specs.ToldPasses.{reflected, rows_at, columns_at, both_at, place_at, whole_at};
+ghost use Rattle.quarter_sample.specs.ToldPasses.{reflected, rows_at, columns_at, both_at, place_at};
 ghost use Rattle.quarter_sample.specs.ToldPasses.{extended_rows, taken_rows, mirrored_rows, spaced_at, Filtered};
 ghost use Rattle.quarter_sample.specs.ToldPasses.{ExtendNeeds, MirrorNeeds, SpacedNeeds, RowsNeeds, PassNeeds, PlaceNeeds};
 
@@ -10,20 +10,23 @@ use crate::filter;
 
 fn part(s: &[u8], at: usize, n: usize) -> &[u8]
     requires { at + n ≤ length s.now }
-    ensures { result.now ≡ tabulate n (λ i. get_or s.now (at + i) 0) }
+    ensures long { length result.now ≡ n }
+    ensures samples { result.now ≡ tabulate n (λ i. get_or s.now (at + i) 0) }
 {
     let end = at + n;
     &s[at..end]
 }
 
+#[tactic(auto, using(plane::proofs::Ready::same_done))]
 fn copy_straight(from: &[u8], out: &mut [u8])
     requires { length from.now ≡ length out.old }
     ensures { out.new ≡ from.now }
 {
-    plane::copy_samples(from, out);
+    let _ = plane::copy_samples(from, out);
 }
 
 // What a row's indices from first - 3 on read.
+#[tactic(auto, using(basis::proofs::Lists::filled_none, basis::proofs::Lists::filled_set))]
 fn reflect(row: &[u8], first: usize, out: &mut [u8])
     requires { (3 ≤ length row.now) × (length row.now ≤ 17) × (first + length out.old ≤ length row.now + 6) }
     ensures { out.new ≡ tabulate (length out.old) (λ k. reflected row.now (first + k)) }
@@ -132,6 +135,18 @@ fn filter_rows(
     filter_spaced(&ext, 1, fraction, rc, max, wide);
 }
 
+// The first w samples of each of the first h rows, which have so many others.
+fn copy_rows<const N: usize, const OTHERS: usize>(src: &[u8; N], w: usize, h: usize, out: &mut [u8])
+    requires { (w ≤ 16) × (OTHERS ≤ 7) × (h * (w + OTHERS) ≤ N) × (length out.old ≡ h * w) }
+    ensures { out.new ≡ taken_rows (w + OTHERS) w h src.now }
+{
+    match w {
+        16 => take_rows(src, 16 + OTHERS, 16, h, out),
+        8 => take_rows(src, 8 + OTHERS, 8, h, out),
+        _ => take_rows(src, w + OTHERS, w, h, out),
+    }
+}
+
 // The first h rows of a block, at the horizontal fraction. The long row is rounded up to sixteens, so that none is left over.
 fn row_pass(block: &[u8; 289], w: usize, h: usize, fraction: u8, rc: u8, max: u8, out: &mut [u8])
     requires { PassNeeds w h fraction rc (length out.old) }
@@ -140,31 +155,12 @@ fn row_pass(block: &[u8; 289], w: usize, h: usize, fraction: u8, rc: u8, max: u8
     let mut wide = [0u8; 400];
     let count = (h * (w + 7) + 15) / 16 * 16;
     filter_rows(block, w, h, fraction, rc, max, &mut wide[..count]);
-    match w {
-        16 => take_rows(&wide, 23, 16, h, out),
-        8 => take_rows(&wide, 15, 8, h, out),
-        _ => take_rows(&wide, w + 7, w, h, out),
-    }
+    copy_rows::<400, 7>(&wide, w, h, out);
 }
 
-// The columns of a block, at the vertical fraction.
-fn column_pass(block: &[u8; 289], w: usize, h: usize, fraction: u8, rc: u8, max: u8, out: &mut [u8])
-    requires { PassNeeds w h fraction rc (length out.old) }
-    ensures { out.new ≡ columns_at w h rc max fraction block.now (w + 1) }
-{
-    let mut middle = [0u8; 408];
-    let count = (h + 7) * w;
-    match w {
-        16 => mirror_rows(block, 17, 16, h + 1, &mut middle[..count]),
-        8 => mirror_rows(block, 9, 8, h + 1, &mut middle[..count]),
-        _ => mirror_rows(block, w + 1, w, h + 1, &mut middle[..count]),
-    }
-    filter_spaced(&middle, w, fraction, rc, max, out);
-}
-
-// The columns of filtered rows.
-fn wide_column_pass(
-    wide: &[u8; 400],
+// The columns at the vertical fraction, out of one row more of w samples and so many others.
+fn column_pass<const N: usize, const OTHERS: usize>(
+    src: &[u8; N],
     w: usize,
     h: usize,
     fraction: u8,
@@ -172,15 +168,15 @@ fn wide_column_pass(
     max: u8,
     out: &mut [u8],
 )
-    requires { PassNeeds w h fraction rc (length out.old) }
-    ensures { out.new ≡ columns_at w h rc max fraction wide.now (w + 7) }
+    requires { PassNeeds w h fraction rc (length out.old) × (OTHERS ≤ 7) × ((h + 1) * (w + OTHERS) ≤ N) }
+    ensures { out.new ≡ columns_at w h rc max fraction src.now (w + OTHERS) }
 {
     let mut middle = [0u8; 408];
     let count = (h + 7) * w;
     match w {
-        16 => mirror_rows(wide, 23, 16, h + 1, &mut middle[..count]),
-        8 => mirror_rows(wide, 15, 8, h + 1, &mut middle[..count]),
-        _ => mirror_rows(wide, w + 7, w, h + 1, &mut middle[..count]),
+        16 => mirror_rows(src, 16 + OTHERS, 16, h + 1, &mut middle[..count]),
+        8 => mirror_rows(src, 8 + OTHERS, 8, h + 1, &mut middle[..count]),
+        _ => mirror_rows(src, w + OTHERS, w, h + 1, &mut middle[..count]),
     }
     filter_spaced(&middle, w, fraction, rc, max, out);
 }
@@ -202,22 +198,10 @@ fn both_passes(
     let mut wide = [0u8; 400];
     let count = ((h + 1) * (w + 7) + 15) / 16 * 16;
     filter_rows(block, w, h + 1, fx, rc, max, &mut wide[..count]);
-    wide_column_pass(&wide, w, h, fy, rc, max, out);
+    column_pass::<400, 7>(&wide, w, h, fy, rc, max, out);
 }
 
-// The whole samples, uncut: the first w of each of the first h rows.
-fn copy_rows(block: &[u8; 289], w: usize, h: usize, out: &mut [u8])
-    requires { (w ≤ 16) × (h ≤ 16) × (length out.old ≡ h * w) }
-    ensures { out.new ≡ whole_at w h block.now }
-{
-    match w {
-        16 => take_rows(block, 17, 16, h, out),
-        8 => take_rows(block, 9, 8, h, out),
-        _ => take_rows(block, w + 1, w, h, out),
-    }
-}
-
-// A copied block's samples at one of the sixteen places, which is fx + 4 fy: an arm for each rule.
+// A copied block's samples at one of the sixteen places, which is fx + 4 fy: an arm for each rule. The whole samples are uncut.
 pub fn interpolate_place(
     block: &[u8; 289],
     w: usize,
@@ -231,19 +215,19 @@ pub fn interpolate_place(
     ensures { out.new ≡ place_at w h rc max fractions block.now }
 {
     match fractions {
-        0 => copy_rows(block, w, h, out),
+        0 => copy_rows::<289, 1>(block, w, h, out),
         1 => row_pass(block, w, h, 1, rc, max, out),
         2 => row_pass(block, w, h, 2, rc, max, out),
         3 => row_pass(block, w, h, 3, rc, max, out),
-        4 => column_pass(block, w, h, 1, rc, max, out),
+        4 => column_pass::<289, 1>(block, w, h, 1, rc, max, out),
         5 => both_passes(block, w, h, 1, 1, rc, max, out),
         6 => both_passes(block, w, h, 2, 1, rc, max, out),
         7 => both_passes(block, w, h, 3, 1, rc, max, out),
-        8 => column_pass(block, w, h, 2, rc, max, out),
+        8 => column_pass::<289, 1>(block, w, h, 2, rc, max, out),
         9 => both_passes(block, w, h, 1, 2, rc, max, out),
         10 => both_passes(block, w, h, 2, 2, rc, max, out),
         11 => both_passes(block, w, h, 3, 2, rc, max, out),
-        12 => column_pass(block, w, h, 3, rc, max, out),
+        12 => column_pass::<289, 1>(block, w, h, 3, rc, max, out),
         13 => both_passes(block, w, h, 1, 3, rc, max, out),
         14 => both_passes(block, w, h, 2, 3, rc, max, out),
         _ => both_passes(block, w, h, 3, 3, rc, max, out),

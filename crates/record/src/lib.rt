@@ -1,13 +1,13 @@
 // What coder and reader both hold: a motion vector, and the record of a macroblock.
 #![tactic(auto)]
 
-ghost use Rattle.std.specs.Prelude.{◌≡◌, ◌<◌};
+ghost use Rattle.std.specs.Prelude.{◌≡◌};
 ghost use Rattle.record.specs.Zero.{zero_vector, no_record};
 ghost use Rattle.record.specs.Pattern.{worth, is_coded};
 ghost use Rattle.record.specs.Count.{events_in, four_total};
 
 // In half or quarter samples, as the mode has it.
-#[derive(Clone, Copy)]
+#[derive(Clone, Copy, Debug, Default, PartialEq, Eq)]
 pub struct MotionVector {
     pub x: i32,
     pub y: i32,
@@ -15,7 +15,7 @@ pub struct MotionVector {
 
 // A macroblock as it is coded: the one vector and its sum; the four vectors and theirs, all 0 where four were not searched for;
 // block 0 is the luma pattern's bit worth 8, Cb the chroma pattern's bit worth 2; how many events each of the six blocks has.
-#[derive(Clone, Copy)]
+#[derive(Clone, Copy, Debug, PartialEq, Eq)]
 pub struct Record {
     pub vector: MotionVector,
     pub sum: u32,
@@ -29,10 +29,10 @@ pub struct Record {
 pub fn zero_vector() -> MotionVector
     ensures { result ≡ zero_vector }
 {
-    MotionVector { x: 0, y: 0 }
+    MotionVector::default()
 }
 
-// The record of a refused call.
+// 0 throughout: what demand 3 takes for the record of a refused call.
 pub fn no_record() -> Record
     ensures { result ≡ no_record }
 {
@@ -67,36 +67,28 @@ fn worth(block: usize) -> u8
 pub fn is_coded(given: Record, block: usize) -> bool
     ensures { result ≡ is_coded given block }
 {
-    let mask = worth(block);
-    if block < 4 {
-        return given.luma_pattern & mask != 0;
-    }
-    given.chroma_pattern & mask != 0
-}
-
-fn wide8(n: u8) -> u64
-    ensures { (result ≡ n) × (result < 256) }
-{
-    n as u64
-}
-
-fn wide32(n: u32) -> u64
-    ensures { (result ≡ n) × (result < 4294967296) }
-{
-    n as u64
+    let pattern = if block < 4 {
+        given.luma_pattern
+    } else {
+        given.chroma_pattern
+    };
+    pattern & worth(block) != 0
 }
 
 // The events of a macroblock's six blocks.
 pub fn event_count(counts: [u8; 6]) -> u64
     ensures { result ≡ events_in counts }
 {
-    let luma = wide8(counts[0]) + wide8(counts[1]) + wide8(counts[2]) + wide8(counts[3]);
-    luma + wide8(counts[4]) + wide8(counts[5])
+    let luma = u64::from(counts[0])
+        + u64::from(counts[1])
+        + u64::from(counts[2])
+        + u64::from(counts[3]);
+    luma + u64::from(counts[4]) + u64::from(counts[5])
 }
 
 // The total of the four vectors' sums.
 pub fn four_total(sums: [u32; 4]) -> u64
     ensures { result ≡ four_total sums }
 {
-    wide32(sums[0]) + wide32(sums[1]) + wide32(sums[2]) + wide32(sums[3])
+    u64::from(sums[0]) + u64::from(sums[1]) + u64::from(sums[2]) + u64::from(sums[3])
 }

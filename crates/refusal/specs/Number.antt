@@ -1,7 +1,5 @@
--- The number of each refusal in the two lists (rules F1 to F31), and of a reply: 0 where nothing is refused.
-use Rattle.std.specs.Prelude.{ℕ}
-use Rattle.refusal.specs.declared.Reply.{Reply}
-use Rattle.refusal.specs.declared.Reply.TheVariants.{Done, Refused}
+-- The number of each refusal in the two lists (rules F1 to F31), and of an answer: 0 where nothing is refused.
+use Rattle.std.specs.Prelude.{ℕ, Result, Ok, Err}
 use Rattle.refusal.specs.declared.Refusal.{Refusal}
 use Rattle.refusal.specs.declared.Refusal.TheVariants.{Fcode, Mode, BitsPerPixel, ReferenceSize, ReferenceBytes, SourceSide, SourcePlane, Place, Seed, Quantiser, Weight, Length, Range, Choice, AfterLast, OtherSize, BeforeLast, RoundingType}
 
@@ -25,6 +23,6 @@ number_of OtherSize = 22
 number_of BeforeLast = 23
 number_of RoundingType = 31
 
-abbrev pub code_of : Reply → ℕ
-code_of Done = 0
-code_of (Refused r) = number_of r
+abbrev pub code_of : {T : Type 0} → Result T Refusal → ℕ
+code_of (Ok _) = 0
+code_of (Err why) = number_of why

@@ -1,9 +1,5 @@
 // The chroma vector of a macroblock, of one vector and of four.
 
-fn vector_same(call: &[u8], k: u8, vector: &[i32; 2]) -> bool {
-    stored::signeds_same(call, k, vector)
-}
-
 pub fn chroma_vector(call: &[u8]) -> bool {
     let mut vector = [-1515870811i32; 2];
     let reply = hencouch::chroma::hencouch_chroma_vector(
@@ -12,7 +8,7 @@ pub fn chroma_vector(call: &[u8]) -> bool {
         stored::signed(call, 2),
         &mut vector,
     );
-    stored::same(call, reply, vector_same(call, 3, &vector))
+    stored::same(call, reply, stored::area_same(call, 3, &vector))
 }
 
 pub fn chroma_vector_4mv(call: &[u8]) -> bool {
@@ -20,5 +16,5 @@ pub fn chroma_vector_4mv(call: &[u8]) -> bool {
     let vectors = crate::luma::eight(stored::signeds(call, 1));
     let mut vector = [-1515870811i32; 2];
     let reply = hencouch::chroma::hencouch_chroma_vector_4mv(mode, &vectors, &mut vector);
-    stored::same(call, reply, vector_same(call, 3, &vector))
+    stored::same(call, reply, stored::area_same(call, 3, &vector))
 }

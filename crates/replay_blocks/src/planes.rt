@@ -1,10 +1,10 @@
 // A macroblock's three planes, predicted by one vector and by four.
 
 fn planes_same(call: &[u8], y: &[u8; 400], cb: &[u8; 400], cr: &[u8; 400]) -> bool {
-    let first = stored::lent::bytes_same(call, 17, y);
-    let second = stored::lent::bytes_same(call, 19, cb);
-    let third = stored::lent::bytes_same(call, 21, cr);
-    refusal::both(first, refusal::both(second, third))
+    let first = stored::area_same(call, 17, y);
+    let second = stored::area_same(call, 19, cb);
+    let third = stored::area_same(call, 21, cr);
+    first && second && third
 }
 
 fn call_predict_macroblock(call: &[u8], y: &mut [u8], cb: &mut [u8], cr: &mut [u8]) -> u8 {
@@ -30,14 +30,14 @@ fn call_predict_macroblock(call: &[u8], y: &mut [u8], cb: &mut [u8], cr: &mut [u
 }
 
 pub fn predict_macroblock(call: &[u8]) -> bool {
-    let mut y = stored::lent::bytes();
-    let mut cb = stored::lent::bytes();
-    let mut cr = stored::lent::bytes();
+    let mut y = stored::lent::full::<u8>();
+    let mut cb = stored::lent::full::<u8>();
+    let mut cr = stored::lent::full::<u8>();
     let reply = call_predict_macroblock(
         call,
-        stored::lent::cut_bytes(call, 17, &mut y),
-        stored::lent::cut_bytes(call, 19, &mut cb),
-        stored::lent::cut_bytes(call, 21, &mut cr),
+        stored::lent::cut(call, 17, &mut y),
+        stored::lent::cut(call, 19, &mut cb),
+        stored::lent::cut(call, 21, &mut cr),
     );
     stored::same(call, reply, planes_same(call, &y, &cb, &cr))
 }
@@ -65,14 +65,14 @@ fn call_predict_macroblock_4mv(call: &[u8], y: &mut [u8], cb: &mut [u8], cr: &mu
 }
 
 pub fn predict_macroblock_4mv(call: &[u8]) -> bool {
-    let mut y = stored::lent::bytes();
-    let mut cb = stored::lent::bytes();
-    let mut cr = stored::lent::bytes();
+    let mut y = stored::lent::full::<u8>();
+    let mut cb = stored::lent::full::<u8>();
+    let mut cr = stored::lent::full::<u8>();
     let reply = call_predict_macroblock_4mv(
         call,
-        stored::lent::cut_bytes(call, 17, &mut y),
-        stored::lent::cut_bytes(call, 19, &mut cb),
-        stored::lent::cut_bytes(call, 21, &mut cr),
+        stored::lent::cut(call, 17, &mut y),
+        stored::lent::cut(call, 19, &mut cb),
+        stored::lent::cut(call, 21, &mut cr),
     );
     stored::same(call, reply, planes_same(call, &y, &cb, &cr))
 }

@@ -1,8 +1,8 @@
 // Motion search.
 
 pub fn estimate_motion(call: &[u8]) -> bool {
-    let mut vector = stored::lent::signeds();
-    let mut sum = stored::lent::words();
+    let mut vector = stored::lent::full::<i32>();
+    let mut sum = stored::lent::full::<u32>();
     let reply = hencouch::motion::hencouch_estimate_motion(
         stored::area(call, 0),
         stored::size(call, 2),
@@ -16,12 +16,12 @@ pub fn estimate_motion(call: &[u8]) -> bool {
         stored::word(call, 11),
         stored::word(call, 12),
         stored::word(call, 13),
-        stored::lent::cut_signeds(call, 14, &mut vector),
-        stored::lent::cut_words(call, 16, &mut sum),
+        stored::lent::cut(call, 14, &mut vector),
+        stored::lent::cut(call, 16, &mut sum),
     );
-    let first = stored::lent::signeds_same(call, 14, &vector);
-    let second = stored::lent::words_same(call, 16, &sum);
-    stored::same(call, reply, refusal::both(first, second))
+    let first = stored::area_same(call, 14, &vector);
+    let second = stored::area_same(call, 16, &sum);
+    stored::same(call, reply, first && second)
 }
 
 fn call_estimate_motion_4mv(call: &[u8], vectors: &mut [i32], sums: &mut [u32]) -> u8 {
@@ -46,14 +46,14 @@ fn call_estimate_motion_4mv(call: &[u8], vectors: &mut [i32], sums: &mut [u32]) 
 }
 
 pub fn estimate_motion_4mv(call: &[u8]) -> bool {
-    let mut vectors = stored::lent::signeds();
-    let mut sums = stored::lent::words();
+    let mut vectors = stored::lent::full::<i32>();
+    let mut sums = stored::lent::full::<u32>();
     let reply = call_estimate_motion_4mv(
         call,
-        stored::lent::cut_signeds(call, 16, &mut vectors),
-        stored::lent::cut_words(call, 18, &mut sums),
+        stored::lent::cut(call, 16, &mut vectors),
+        stored::lent::cut(call, 18, &mut sums),
     );
-    let first = stored::lent::signeds_same(call, 16, &vectors);
-    let second = stored::lent::words_same(call, 18, &sums);
-    stored::same(call, reply, refusal::both(first, second))
+    let first = stored::area_same(call, 16, &vectors);
+    let second = stored::area_same(call, 18, &sums);
+    stored::same(call, reply, first && second)
 }

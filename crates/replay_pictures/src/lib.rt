@@ -3,6 +3,7 @@
 // to stay so.
 #![tactic(auto)]
 
+mod lent;
 mod predicted;
 mod run;
 mod whole;

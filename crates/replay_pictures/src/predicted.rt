@@ -1,18 +1,10 @@
 // The entries that search for a macroblock, predict it and code it.
+use crate::lent::Lent;
+use crate::run;
 
-fn call_code_predicted_macroblock(
-    call: &[u8],
-    lasts: &mut [u8],
-    runs: &mut [u8],
-    levels: &mut [i32],
-    vector: &mut [i32; 2],
-    sum: &mut u32,
-    vectors: &mut [i32; 8],
-    sums: &mut [u32; 4],
-    patterns: &mut [u8; 2],
-    counts: &mut [u8; 6],
-) -> u8 {
-    hencouch::whole::hencouch_code_predicted_macroblock(
+pub fn code_predicted_macroblock(call: &[u8]) -> bool {
+    let mut lent = Lent::full();
+    let reply = hencouch::whole::hencouch_code_predicted_macroblock(
         stored::word(call, 0),
         stored::word(call, 1),
         stored::word(call, 2),
@@ -36,63 +28,25 @@ fn call_code_predicted_macroblock(
         stored::size(call, 26),
         stored::size(call, 27),
         stored::area(call, 28),
-        lasts,
-        runs,
-        levels,
-        vector,
-        sum,
-        vectors,
-        sums,
-        patterns,
-        counts,
-    )
+        stored::lent::cut(call, 30, &mut lent.lasts),
+        stored::lent::cut(call, 32, &mut lent.runs),
+        stored::lent::cut(call, 34, &mut lent.levels),
+        &mut lent.vector,
+        &mut lent.sum,
+        &mut lent.vectors,
+        &mut lent.sums,
+        &mut lent.patterns,
+        &mut lent.counts,
+    );
+    let same = lent.is_same(call, 30);
+    stored::same(call, reply, same)
 }
 
-pub fn code_predicted_macroblock(call: &[u8]) -> bool {
-    let mut lasts = stored::lent::bytes();
-    let mut runs = stored::lent::bytes();
-    let mut levels = stored::lent::signeds();
-    let mut vector = [-1515870811i32; 2];
-    let mut sum: u32 = 2779096485;
-    let mut vectors = [-1515870811i32; 8];
-    let mut sums = [2779096485u32; 4];
-    let mut patterns = [165u8; 2];
-    let mut counts = [165u8; 6];
-    let reply = call_code_predicted_macroblock(
-        call,
-        stored::lent::cut_bytes(call, 30, &mut lasts),
-        stored::lent::cut_bytes(call, 32, &mut runs),
-        stored::lent::cut_signeds(call, 34, &mut levels),
-        &mut vector,
-        &mut sum,
-        &mut vectors,
-        &mut sums,
-        &mut patterns,
-        &mut counts,
-    );
-    let first = stored::lent::events_same(call, [30, 32, 34], &lasts, &runs, &levels);
-    let slots = [36, 38, 40, 42, 44, 46];
-    let second = crate::whole::record_same(
-        call, slots, &vector, sum, &vectors, &sums, &patterns, &counts,
-    );
-    stored::same(call, reply, refusal::both(first, second))
-}
-
-fn call_step_predicted(
-    call: &[u8],
-    run: &mut [u64; 5],
-    lasts: &mut [u8],
-    runs: &mut [u8],
-    levels: &mut [i32],
-    vector: &mut [i32; 2],
-    sum: &mut u32,
-    vectors: &mut [i32; 8],
-    sums: &mut [u32; 4],
-    patterns: &mut [u8; 2],
-    counts: &mut [u8; 6],
-) -> u8 {
-    hencouch::run::hencouch_step_predicted(
-        run,
+pub fn step_predicted(call: &[u8]) -> bool {
+    let mut run = stored::five(call, 0);
+    let mut lent = Lent::full();
+    let reply = hencouch::run::hencouch_step_predicted(
+        &mut run,
         stored::word(call, 4),
         stored::word(call, 5),
         stored::word(call, 6),
@@ -114,51 +68,16 @@ fn call_step_predicted(
         stored::size(call, 28),
         stored::size(call, 29),
         stored::area(call, 30),
-        lasts,
-        runs,
-        levels,
-        vector,
-        sum,
-        vectors,
-        sums,
-        patterns,
-        counts,
-    )
-}
-
-pub fn step_predicted(call: &[u8]) -> bool {
-    let mut run = stored::five(call, 0);
-    let mut lasts = stored::lent::bytes();
-    let mut runs = stored::lent::bytes();
-    let mut levels = stored::lent::signeds();
-    let mut vector = [-1515870811i32; 2];
-    let mut sum: u32 = 2779096485;
-    let mut vectors = [-1515870811i32; 8];
-    let mut sums = [2779096485u32; 4];
-    let mut patterns = [165u8; 2];
-    let mut counts = [165u8; 6];
-    let reply = call_step_predicted(
-        call,
-        &mut run,
-        stored::lent::cut_bytes(call, 32, &mut lasts),
-        stored::lent::cut_bytes(call, 34, &mut runs),
-        stored::lent::cut_signeds(call, 36, &mut levels),
-        &mut vector,
-        &mut sum,
-        &mut vectors,
-        &mut sums,
-        &mut patterns,
-        &mut counts,
+        stored::lent::cut(call, 32, &mut lent.lasts),
+        stored::lent::cut(call, 34, &mut lent.runs),
+        stored::lent::cut(call, 36, &mut lent.levels),
+        &mut lent.vector,
+        &mut lent.sum,
+        &mut lent.vectors,
+        &mut lent.sums,
+        &mut lent.patterns,
+        &mut lent.counts,
     );
-    let first = stored::lent::events_same(call, [32, 34, 36], &lasts, &runs, &levels);
-    let slots = [38, 40, 42, 44, 46, 48];
-    let second = crate::whole::record_same(
-        call, slots, &vector, sum, &vectors, &sums, &patterns, &counts,
-    );
-    let third = crate::run::run_kept(call, run);
-    stored::same(
-        call,
-        reply,
-        refusal::both(first, refusal::both(second, third)),
-    )
+    let same = lent.is_same(call, 32) && run::run_kept(call, run);
+    stored::same(call, reply, same)
 }

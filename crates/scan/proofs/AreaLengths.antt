@@ -7,7 +7,7 @@ use lib.IntN.{ℤ, pos}
 use lib.ListN.{length, replicate, length-append, length-map, length-replicate}
 use Rattle.basis.proofs.Areas.{pad_length}
 use Rattle.scan.specs.Event.{Event, events_of, marks, lasts_area, runs_area, levels_area}
-use Rattle.scan.proofs.Writing.{events-length}
+use Rattle.scan.proofs.Writing.{events_length}
 
 marks-length : (n : ℕ) → length (marks n) ≡ n
 marks-length zero = refl
@@ -18,7 +18,7 @@ marks-length (suc n) = length-append (replicate n 0) (1 ∷ []) ∙ ap (λ (m : 
 
 module _ (levels : List ℤ) (full : length levels ≡ 64) where
   few : length (events_of levels) ≤ 64
-  few = omega (arith, events-length 0 levels)
+  few = omega (arith, events_length 0 levels)
 
   pub lasts_length : length (lasts_area levels) ≡ 64
   unfolding lasts_area

@@ -3,15 +3,17 @@ use Prim.Native.Nat.{ℕ, zero, suc, ◌+◌, ◌-◌, ◌≤◌, ◌<◌, ◌^�
 use native.Mathlib.Nat.{add-zero}
 use native.Mathlib.Numerals.{add-one}
 use native.Mathlib.Omega.{arith}
-use mathlib.Core.Bool.{Bool, true, false, cond}
+use mathlib.Core.Bool.{Bool, true, false, cond, not}
 use mathlib.Core.List.{List, [], ◌∷◌, ◌++◌, map, append-nil}
 use mathlib.Core.Path.{◌≡◌, refl, sym, ap, ◌∙◌}
 use lib.IntN.{ℤ, pos, negsuc}
-use lib.ListN.{length, drop, get_or, set, replicate, length-append, length-map, drop_of_length-le, length-replicate, replicate-append-replicate}
-use lib.Seq.{drop-cons, append_snoc, get_or-set_other, set-get_or, set-set}
+use lib.ListN.{length, length-set, drop, get_or, set, replicate, length-append, length-map, drop_of_length-le, length-replicate, replicate-append-replicate}
+use lib.Seq.{set_out, drop-cons, append_snoc, get_or-set_other, set-get_or, set-set}
 use lib.Signed.{mag}
 use mir.Syntax.{w32}
-use mir.Val.{of_z}
+use mir.Val.{SFits, to_z, of_z, bool_byte}
+use mir.ValLaws.{to_z-of_z}
+use lib.Dec.{eqb}
 use borrow.Author.Tests.{eq-eqb, ne_eqb}
 use Rattle.basis.proofs.Case.{then, else}
 use Rattle.scan.specs.Event.{Event, is_zero, events_after, events_of, marks, area, runs_area, levels_area}
@@ -184,10 +186,68 @@ module _ {levels : List ℤ} {runs : List ℕ} {values : List ℤ} {count run i 
         ),
       )
 
+-- the same with 0 at the first free place of the runs, as the loop keeps it
+pub record AfterTurns (levels : List ℤ) (runs : List ℕ) (values : List ℤ) (count run i : ℕ) : Type 0 where
+  pub room : run + count ≤ i
+  pub at_most : i ≤ 64
+  pub runs_long : length runs ≡ 64
+  pub values_long : length values ≡ 64
+  pub written : WrittenSoFar levels (set runs count 0) values count run i
+
+after_turns : {levels : List ℤ} {runs : List ℕ} {values : List ℤ} {count run i : ℕ}
+    → WrittenSoFar levels (set runs count 0) values count run i → AfterTurns levels runs values count run i
+after_turns {runs} {count} w = record {
+  room = w.room;
+  at_most = w.at;
+  runs_long = sym (length-set runs count 0) ∙ runs_length w;
+  values_long = values_length w;
+  written = w;
+}
+
+pub no_turns : {levels : List ℤ} {runs : List ℕ} {values : List ℤ} → runs ≡ replicate 64 0 → values ≡ replicate 64 (pos 0)
+    → AfterTurns levels runs values 0 0 0
+no_turns e f = after_turns (started _ (ap (λ (l : List ℕ). set l 0 0) e) f)
+
+-- a level read as the machine has it, and how many events it is
+one_unless_zero : (z : ℤ) → SFits w32 z → bool_byte (not (eqb (of_z w32 z) 0)) ≡ cond (is_zero z) 0 1
+one_unless_zero (pos n) f = by (eqb n 0)
+  where
+    by : (t : Bool) → bool_byte (not t) ≡ cond t 0 1
+    by true = refl
+    by false = refl
+one_unless_zero (negsuc n) f = ap (λ (t : Bool). bool_byte (not t)) (ne_eqb (2 ^ 32 - suc n) 0 (λ e. absurd (omega (arith, f.sfits, e))))
+
+pub next_turn : {levels : List ℤ} {runs : List ℕ} {values : List ℤ} {count run i : ℕ} (one next : ℕ)
+    → AfterTurns levels runs values count run i → length levels ≡ 64 → i < 64 → SFits w32 (get_or levels i (pos 0))
+    → one ≡ bool_byte (not (eqb (of_z w32 (get_or levels i (pos 0))) 0))
+    → next ≡ cond (is_zero (to_z w32 (of_z w32 (get_or levels i (pos 0))))) (run + 1) 0
+    → AfterTurns levels (set runs count run) (set values count (to_z w32 (of_z w32 (get_or levels i (pos 0))))) (count + one) next (i + 1)
+next_turn {levels} {runs} {values} {count} {run} {i} one next t full more fits o n =
+    let level = get_or levels i (pos 0) in
+    let read : to_z w32 (of_z w32 level) ≡ level = to_z-of_z w32 level fits in
+    let o' : one ≡ cond (is_zero level) 0 1 = o ∙ one_unless_zero level fits in
+    let n' : next ≡ cond (is_zero level) (run + 1) 0 = n ∙ ap (λ (z : ℤ). cond (is_zero z) (run + 1) 0) read in
+    rw (o', n', read) (after_turns (turn levels runs values count run i full more t.written))
+
+-- after all 64
+module _ {levels : List ℤ} {runs : List ℕ} {values : List ℤ} {count run i : ℕ} (t : AfterTurns levels runs values count run i) (full : length levels ≡ 64) (end : 64 ≤ i) where
+  pub all_counted : count ≡ length (events_of levels)
+  all_counted = (finished t.written full end).0
+
+  pub all_runs : set runs count 0 ≡ runs_area levels
+  all_runs = (finished t.written full end).1.0
+
+  -- where no place is left
+  pub all_runs_full : 64 ≤ count → runs ≡ runs_area levels
+  all_runs_full h = sym (set_out runs count 0 (omega (arith, t.runs_long))) ∙ all_runs
+
+  pub all_values : values ≡ levels_area levels
+  all_values = (finished t.written full end).1.1
+
 -- no more events than levels
-pub events-length : (r : ℕ) (xs : List ℤ) → length (events_after r xs) ≤ length xs
-events-length r [] = omega arith
-events-length r (x ∷ xs) = by (events-length (suc r) xs) (events-length 0 xs) (is_zero x) refl
+pub events_length : (r : ℕ) (xs : List ℤ) → length (events_after r xs) ≤ length xs
+events_length r [] = omega arith
+events_length r (x ∷ xs) = by (events_length (suc r) xs) (events_length 0 xs) (is_zero x) refl
   where
     by : length (events_after (suc r) xs) ≤ length xs → length (events_after 0 xs) ≤ length xs
         → (t : Bool) → is_zero x ≡ t → length (events_after r (x ∷ xs)) ≤ suc (length xs)

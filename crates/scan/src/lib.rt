@@ -1,8 +1,7 @@
 // The scan grids, scan and inverse scan of a block's levels, and its events (rules E1 to E8).
 #![tactic(auto)]
 
-ghost use Rattle.std.specs.Prelude.{◌≡◌, length};
-ghost use Rattle.refusal.specs.declared.Reply.TheVariants.{Done};
+ghost use Rattle.std.specs.Prelude.{◌≡◌, length, IfOk};
 ghost use Rattle.refusal.specs.Reply.{done};
 ghost use Rattle.scan.specs.Event.{lasts_area, runs_area, levels_area};
 ghost use Rattle.scan.specs.Grid.{grid_of, inter_scan, scanned, unscanned};
@@ -52,35 +51,28 @@ const ZIGZAG: [[u8; 8]; 8] = [
 pub fn inter_scan(interlaced: bool, alternate: bool) -> u32
     ensures { result ≡ inter_scan interlaced alternate }
 {
-    if refusal::both(interlaced, alternate) {
-        1
-    } else {
-        2
-    }
+    if interlaced && alternate { 1 } else { 2 }
 }
 
+#[tactic(auto, unfolding(crate::specs::Grid::grid_of, crate::specs::Grid::alt_horizontal, crate::specs::Grid::alt_vertical, crate::specs::Grid::zigzag))]
 fn scan_grid(scan: u32) -> [[u8; 8]; 8]
     ensures { result ≡ grid_of scan }
 {
-    if scan == 0 {
-        return ALT_HORIZONTAL;
+    match scan {
+        0 => ALT_HORIZONTAL,
+        1 => ALT_VERTICAL,
+        _ => ZIGZAG,
     }
-    if scan == 1 {
-        return ALT_VERTICAL;
-    }
-    ZIGZAG
 }
 
 // What turns a scan back: 12, 13, 14.
+#[tactic(auto, unfolding(crate::specs::Reply::scan_reply))]
 fn scan_reply(levels: &[i32], scan: u32, area: usize) -> Reply
     ensures { result ≡ scan_reply levels.now scan area }
 {
-    let sizes = refusal::both(levels.len() == 64, area == 64);
-    let good = refusal::all_in_range(-2047, 2047, levels);
-    let known = refusal::between(0, 2, scan as usize);
-    let choice = refusal::unless(known, Refusal::Choice, Reply::Done);
-    let range = refusal::unless(good, Refusal::Range, choice);
-    refusal::unless(sizes, Refusal::Length, range)
+    refusal::require(levels.len() == 64 && area == 64, Refusal::Length)?;
+    refusal::require(refusal::all_in_range(-2047, 2047, levels), Refusal::Range)?;
+    refusal::require(scan <= 2, Refusal::Choice)
 }
 
 // The levels of a row at the places that a grid's row names: row by row, so that eight are stored in a run.
@@ -95,7 +87,7 @@ fn scan_row(row: [u8; 8], levels: &[i32], out: &mut [i32])
 }
 
 fn scan_ready(levels: &[i32], scan: u32, out: &mut [i32])
-    requires { scan_reply levels.now scan (length out.old) ≡ Done }
+    requires { scan_reply levels.now scan (length out.old) ≡ Ok tt }
     ensures { out.new ≡ scanned (grid_of scan) levels.now }
 {
     // A constant array is copied wherever it is read, so it is read once.
@@ -109,23 +101,19 @@ fn scan_ready(levels: &[i32], scan: u32, out: &mut [i32])
 }
 
 // The levels of a block, from rows into scan order: 12, 13, 14.
+#[tactic(auto, using(crate::proofs::Accepted::scanned_back))]
 pub fn forward_scan(levels: &[i32], scan: u32, out: &mut [i32]) -> Reply
     ensures value { result ≡ scan_reply levels.now scan (length out.old) }
     ensures out_after { out.new ≡ done result (scanned (grid_of scan) levels.now) out.old }
-    ensures reads_back { result ≡ Done → unscanned (grid_of scan) out.new ≡ levels.now }
+    ensures reads_back { result ≡ Ok tt → unscanned (grid_of scan) out.new ≡ levels.now }
 {
-    let reply = scan_reply(levels, scan, out.len());
-    match reply {
-        Reply::Refused(why) => Reply::Refused(why),
-        Reply::Done => {
-            scan_ready(levels, scan, out);
-            Reply::Done
-        }
-    }
+    scan_reply(levels, scan, out.len())?;
+    scan_ready(levels, scan, out);
+    Ok(())
 }
 
 fn inverse_ready(levels: &[i32], scan: u32, out: &mut [i32])
-    requires { scan_reply levels.now scan (length out.old) ≡ Done }
+    requires { scan_reply levels.now scan (length out.old) ≡ Ok tt }
     ensures { out.new ≡ unscanned (grid_of scan) levels.now }
 {
     let grid = scan_grid(scan);
@@ -136,68 +124,46 @@ fn inverse_ready(levels: &[i32], scan: u32, out: &mut [i32])
 }
 
 // The levels of a block, from scan order back into rows: 12, 13, 14.
+#[tactic(auto, using(crate::proofs::Accepted::unscanned_back))]
 pub fn inverse_scan(levels: &[i32], scan: u32, out: &mut [i32]) -> Reply
     ensures value { result ≡ scan_reply levels.now scan (length out.old) }
     ensures out_after { out.new ≡ done result (unscanned (grid_of scan) levels.now) out.old }
-    ensures reads_back { result ≡ Done → scanned (grid_of scan) out.new ≡ levels.now }
+    ensures reads_back { result ≡ Ok tt → scanned (grid_of scan) out.new ≡ levels.now }
 {
-    let reply = scan_reply(levels, scan, out.len());
-    match reply {
-        Reply::Refused(why) => Reply::Refused(why),
-        Reply::Done => {
-            inverse_ready(levels, scan, out);
-            Reply::Done
-        }
-    }
-}
-
-// The reply, and how many events were written.
-#[derive(Clone, Copy)]
-pub struct Events {
-    pub reply: Reply,
-    pub count: u8,
+    scan_reply(levels, scan, out.len())?;
+    inverse_ready(levels, scan, out);
+    Ok(())
 }
 
 // What turns events back: 12, 13.
+#[tactic(auto, unfolding(crate::specs::Reply::events_reply))]
 fn events_reply(levels: &[i32], lasts: usize, runs: usize, out_levels: usize) -> Reply
     ensures { result ≡ events_reply levels.now lasts runs out_levels }
 {
-    let areas = refusal::both(lasts == 64, refusal::both(runs == 64, out_levels == 64));
-    let sizes = refusal::both(levels.len() == 64, areas);
-    let good = refusal::all_in_range(-2047, 2047, levels);
-    let range = refusal::unless(good, Refusal::Range, Reply::Done);
-    refusal::unless(sizes, Refusal::Length, range)
+    refusal::require(
+        levels.len() == 64 && lasts == 64 && runs == 64 && out_levels == 64,
+        Refusal::Length,
+    )?;
+    refusal::require(refusal::all_in_range(-2047, 2047, levels), Refusal::Range)
 }
 
 // The events of a block's levels in scan order: for each its mark, 1 for the last and 0 for any other, its run and its level, from
 // the front; the rest of each area is 0. 12, 13.
+#[tactic(auto, using(crate::proofs::Accepted::events_lengths, crate::proofs::Accepted::events_back))]
 pub fn levels_to_events(
     levels: &[i32],
     lasts: &mut [u8],
     runs: &mut [u8],
     out_levels: &mut [i32],
-) -> Events
+) -> Result<u8, Refusal>
     ensures value { result ≡ events_answer
         (events_reply levels.now (length lasts.old) (length runs.old) (length out_levels.old))
         levels.now }
-    ensures lasts_after { lasts.new ≡ done result.reply (lasts_area levels.now) lasts.old }
-    ensures runs_after { runs.new ≡ done result.reply (runs_area levels.now) runs.old }
-    ensures out_levels_after { out_levels.new ≡ done result.reply (levels_area levels.now) out_levels.old }
-    ensures reads_back { result.reply ≡ Done → ReadsBack levels.now lasts.new runs.new out_levels.new result.count }
+    ensures lasts_after { lasts.new ≡ done result (lasts_area levels.now) lasts.old }
+    ensures runs_after { runs.new ≡ done result (runs_area levels.now) runs.old }
+    ensures out_levels_after { out_levels.new ≡ done result (levels_area levels.now) out_levels.old }
+    ensures reads_back { IfOk result (ReadsBack levels.now lasts.new runs.new out_levels.new) }
 {
-    let reply = events_reply(levels, lasts.len(), runs.len(), out_levels.len());
-    match reply {
-        Reply::Refused(why) => {
-            let refused = Reply::Refused(why);
-            Events {
-                reply: refused,
-                count: 0,
-            }
-        }
-        Reply::Done => {
-            let count = write::fill_events(levels, lasts, runs, out_levels);
-            let done = Reply::Done;
-            Events { reply: done, count }
-        }
-    }
+    events_reply(levels, lasts.len(), runs.len(), out_levels.len())?;
+    Ok(write::fill_events(levels, lasts, runs, out_levels))
 }

@@ -3,32 +3,8 @@ ghost use Rattle.std.specs.Prelude.{◌≡◌, cond, ◌+◌, ◌≤◌, ◌<◌
 ghost use Rattle.scan.specs.Event.{is_zero, events_of, marks, area, lasts_area, runs_area, levels_area};
 ghost use Rattle.scan.specs.Told.{SixtyFours};
 
-fn clear_bytes(bytes: &mut [u8])
-    requires { length bytes.old ≡ 64 }
-    ensures { bytes.new ≡ replicate 64 0 }
-{
-    for i in 0..64usize {
-        bytes[i] = 0;
-    }
-}
-
-fn clear_levels(levels: &mut [i32])
-    requires { length levels.old ≡ 64 }
-    ensures { levels.new ≡ replicate 64 (pos 0) }
-{
-    for i in 0..64usize {
-        levels[i] = 0;
-    }
-}
-
-// How many events a level is.
-fn one_unless_zero(x: i32) -> usize
-    ensures { (result ≡ cond (is_zero x) 0 1) × (result ≤ 1) }
-{
-    if x == 0 { 0 } else { 1 }
-}
-
 // The zeros since the last event, with one level more.
+#[tactic(auto, using(crate::proofs::Writing::zero_bits, crate::proofs::Writing::not_zero_bits))]
 fn run_after(run: u8, x: i32) -> u8
     requires { run < 64 }
     ensures { result ≡ cond (is_zero x) (run + 1) 0 }
@@ -48,14 +24,12 @@ fn write_events(levels: &[i32], runs: &mut [u8], out_levels: &mut [i32]) -> usiz
 {
     let mut count: usize = 0;
     let mut run: u8 = 0;
-    let mut i: usize = 0;
-    while i < 64 {
-        let x = levels[i];
+    for x in levels {
+        let x = *x;
         runs[count] = run;
         out_levels[count] = x;
-        count += one_unless_zero(x);
+        count += usize::from(x != 0);
         run = run_after(run, x);
-        i += 1;
     }
     if count < 64 {
         runs[count] = 0;
@@ -64,18 +38,19 @@ fn write_events(levels: &[i32], runs: &mut [u8], out_levels: &mut [i32]) -> usiz
 }
 
 // 1 at the last of `count` places of a cleared area.
+#[tactic(auto, using(crate::proofs::Writing::marked))]
 fn mark_last(lasts: &mut [u8], count: usize)
     requires lasts_value { lasts.old ≡ replicate 64 0 }
     requires count_bound { count ≤ 64 }
     ensures { lasts.new ≡ area 0 (marks count) }
 {
-    if count == 0 {
-        return;
+    if count > 0 {
+        lasts[count - 1] = 1;
     }
-    lasts[count - 1] = 1;
 }
 
 // The areas of a block's events, whatever stood there; the count of events.
+#[tactic(auto, using(crate::proofs::Writing::events_length), unfolding(crate::specs::Event::lasts_area))]
 pub fn fill_events(levels: &[i32], lasts: &mut [u8], runs: &mut [u8], out_levels: &mut [i32]) -> u8
     requires { SixtyFours (length levels.now) (length lasts.old) (length runs.old) (length out_levels.old) }
     ensures value { result ≡ length (events_of levels.now) }
@@ -83,9 +58,9 @@ pub fn fill_events(levels: &[i32], lasts: &mut [u8], runs: &mut [u8], out_levels
     ensures runs_after { runs.new ≡ runs_area levels.now }
     ensures out_levels_after { out_levels.new ≡ levels_area levels.now }
 {
-    clear_bytes(lasts);
-    clear_bytes(runs);
-    clear_levels(out_levels);
+    lasts.fill(0);
+    runs.fill(0);
+    out_levels.fill(0);
     let count = write_events(levels, runs, out_levels);
     mark_last(lasts, count);
     count as u8

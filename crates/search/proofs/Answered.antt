@@ -3,23 +3,23 @@ use mathlib.Core.Bool.{true}
 use mathlib.Core.Path.{◌≡◌, refl, sym, ap}
 use lib.ListN.{length}
 use Rattle.refusal.specs.declared.Refusal.TheVariants.{Seed}
-use Rattle.refusal.specs.declared.Reply.{Reply}
-use Rattle.refusal.specs.declared.Reply.TheVariants.{Done}
+use Rattle.refusal.specs.Reply.{Reply, answer}
+use Rattle.std.specs.Prelude.{Ok}
 use Rattle.refusal.proofs.Replies.{passed, both_done}
 use Rattle.record.specs.declared.MotionVector.{MotionVector}
 use Rattle.plane.specs.Reference.{reference_reply}
 use Rattle.plane.specs.Source.{source_luma_reply}
 use Rattle.search.specs.Range.{vector_in}
 use Rattle.search.specs.Request.{SearchRequest, settings_in, sought, settings_reply, search_reply, seed_reply, four_reply}
-use Rattle.search.specs.Estimate.{one_vector, four_vectors_of, estimated, estimated_four, estimate_motion, estimate_four}
+use Rattle.search.specs.Estimate.{one_vector, four_vectors_of, estimated, estimate_motion, estimate_four}
 
 module _ (q : SearchRequest) where
-  pub search_taken : settings_reply q.fcode q.mode q.bpp ≡ Done → reference_reply q.geometry (length q.reference) ≡ Done
-      → source_luma_reply q.size (length q.source) q.place ≡ Done → search_reply q ≡ Done
+  pub search_taken : settings_reply q.fcode q.mode q.bpp ≡ Ok tt → reference_reply q.geometry (length q.reference) ≡ Ok tt
+      → source_luma_reply q.size (length q.source) q.place ≡ Ok tt → search_reply q ≡ Ok tt
   unfolding search_reply
   search_taken e f h = both_done e (both_done f h)
 
-  pub four_taken : (seed : MotionVector) → search_reply q ≡ Done → vector_in q.fcode seed ≡ true → four_reply q seed ≡ Done
+  pub four_taken : (seed : MotionVector) → search_reply q ≡ Ok tt → vector_in q.fcode seed ≡ true → four_reply q seed ≡ Ok tt
   unfolding four_reply seed_reply
   four_taken seed e h = both_done e (passed (vector_in q.fcode seed) Seed h refl)
 
@@ -29,13 +29,13 @@ module _ (q : SearchRequest) where
   one_by e = ap (λ (r : Reply). estimated r (one_vector (settings_in 0 q) (sought q))) e
 
   pub four_by : (seed : MotionVector) {r : Reply} → r ≡ four_reply q seed
-      → estimated_four r (four_vectors_of (settings_in 0 q) seed (sought q)) ≡ estimate_four q seed
+      → answer r (four_vectors_of (settings_in 0 q) seed (sought q)) ≡ estimate_four q seed
   unfolding estimate_four
-  four_by seed e = ap (λ (r : Reply). estimated_four r (four_vectors_of (settings_in 0 q) seed (sought q))) e
+  four_by seed e = ap (λ (r : Reply). answer r (four_vectors_of (settings_in 0 q) seed (sought q))) e
 
   -- where it is not refused
-  pub one_answered : search_reply q ≡ Done → estimate_motion q ≡ estimated Done (one_vector (settings_in 0 q) (sought q))
+  pub one_answered : search_reply q ≡ Ok tt → estimate_motion q ≡ estimated (Ok tt) (one_vector (settings_in 0 q) (sought q))
   one_answered e = sym (one_by (sym e))
 
-  pub four_answered : (seed : MotionVector) → four_reply q seed ≡ Done → estimate_four q seed ≡ four_vectors_of (settings_in 0 q) seed (sought q)
+  pub four_answered : (seed : MotionVector) → four_reply q seed ≡ Ok tt → estimate_four q seed ≡ Ok (four_vectors_of (settings_in 0 q) seed (sought q))
   four_answered seed e = sym (four_by seed (sym e))

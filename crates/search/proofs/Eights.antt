@@ -9,7 +9,7 @@ use Rattle.basis.specs.Lists.{tabulate, raster}
 use Rattle.basis.specs.Parts.{above, below}
 use Rattle.basis.proofs.Lists.{raster_cong, get_or-raster}
 use Rattle.basis.proofs.Parts.{above-add, below-add}
-use Rattle.refusal.specs.declared.Reply.TheVariants.{Done}
+use Rattle.std.specs.Prelude.{Ok}
 use Rattle.record.specs.declared.MotionVector.{MotionVector}
 use Rattle.plane.specs.declared.Geometry.{Geometry}
 use Rattle.plane.specs.declared.Point.{Point}
@@ -45,7 +45,7 @@ whole = record { width = 16; height = 16; stride = 16 }
 abbrev pub start_of : ℕ → Point
 start_of n = record { x = pos (8 * (n % 2)); y = pos (8 * (n / 2)) }
 
-pub whole_usable : (n : ℕ) → n ≡ 256 → reference_reply whole n ≡ Done
+pub whole_usable : (n : ℕ) → n ≡ 256 → reference_reply whole n ≡ Ok tt
 whole_usable n e = reference_done whole n refl (omega (arith, e))
 
 -- the sample at column i and row j of block n
@@ -113,7 +113,6 @@ module _ (s : SearchSettings) (seed : MotionVector) where
     pub four_are : (a b c d : Scored) → a ≡ laid_vector 0 → b ≡ laid_vector 1 → c ≡ laid_vector 2 → d ≡ laid_vector 3
         → ◌≡◌ {A = EstimatedFour}
         (record {
-          reply = Done;
           vectors = a.vector ∷ b.vector ∷ c.vector ∷ d.vector ∷ [];
           sums = a.cost ∷ b.cost ∷ c.cost ∷ d.cost ∷ [];
         }) (four_vectors_of s seed (given f p corner))
@@ -125,7 +124,6 @@ module _ (s : SearchSettings) (seed : MotionVector) where
         let o = t ∙ same_vector 3 (omega arith) in
         λ i.
         record {
-          reply = Done;
           vectors = (e i).vector ∷ (g i).vector ∷ (k i).vector ∷ (o i).vector ∷ [];
           sums = (e i).cost ∷ (g i).cost ∷ (k i).cost ∷ (o i).cost ∷ [];
         }

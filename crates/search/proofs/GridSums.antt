@@ -1,5 +1,5 @@
 -- The half ring in half mode: the sums on windows of grids are those of the ring's vectors. Assumes nothing.
-use Prim.Native.Nat.{ℕ, zero, suc, ◌+◌, ◌-◌, ◌*◌, ◌/◌, ◌%◌, ◌<◌, ◌≤◌}
+use Prim.Native.Nat.{ℕ, zero, suc, ◌+◌, ◌-◌, ◌*◌, ◌/◌, ◌%◌, ◌<◌, ◌≤◌, min}
 use native.Mathlib.Nat.{add-mul, mul-le-mul_right}
 use native.Mathlib.Omega.{arith}
 use mathlib.Core.Bool.{Bool, true, false, not, ◌&&◌, ◌||◌}
@@ -47,9 +47,9 @@ half_sums s b e = ap sum_by e
 
 -- ---- where windows stand
 
-pub read_one : (k : ℕ) → (k ≡ 0 → ⊥) → 1 ≡ read_from k
-read_one zero h = absurd (h refl)
-read_one (suc k) h = refl
+pub read_least : (k : ℕ) → min k 1 ≡ read_from k
+read_least zero = refl
+read_least (suc k) = omega arith
 
 pub read_most : (k : ℕ) → read_from k ≤ 1
 read_most zero = omega arith

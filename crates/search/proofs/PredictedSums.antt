@@ -10,7 +10,7 @@ use Rattle.basis.specs.Parts.{above, below}
 use Rattle.basis.proofs.Case.{both}
 use Rattle.basis.proofs.Lists.{length-raster}
 use Rattle.basis.proofs.Signed.{le_is}
-use Rattle.refusal.specs.declared.Reply.TheVariants.{Done}
+use Rattle.std.specs.Prelude.{Ok}
 use Rattle.refusal.specs.Test.{in_range}
 use Rattle.record.specs.declared.MotionVector.{MotionVector}
 use Rattle.plane.specs.declared.Point.{Point}
@@ -38,7 +38,7 @@ corner_in o i = both (part o.x i.x_most i.x_least) (part o.y i.y_most i.y_least)
 
 module _ (source samples : List ℕ) (t : Target) (s : SearchSettings) (v : MotionVector) (p : Predictable source samples t s v) where
   pub predicted_done : (area : ℕ) → area ≡ t.side * t.side
-      → interpolation_reply s.mode t.geometry (length samples) v (square_at t.corner t.side) area ≡ Done
+      → interpolation_reply s.mode t.geometry (length samples) v (square_at t.corner t.side) area ≡ Ok tt
   predicted_done area k =
       let r = p.ready in
       luma_done s.mode t.geometry (length samples) v (square_at t.corner t.side) area p.mode_usable r.reference

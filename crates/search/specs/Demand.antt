@@ -1,4 +1,5 @@
--- Demand 3's sentences on a vector that was searched for, over any sum. The search's own sums are `vector_sum` at the settings' rounding type.
+-- Demand 3's sentences on a vector that was searched for, over any sum. The search's own sums are `vector_sum` at the settings' rounding
+-- type.
 use Rattle.std.specs.Prelude.{ℕ, ◌<◌, true, List, ◌≡◌, length, get_or}
 use Rattle.basis.specs.Least.{FirstLeast}
 use Rattle.record.specs.declared.MotionVector.{MotionVector}

@@ -6,3 +6,4 @@ pub mod Estimate
 pub mod Demand
 pub mod Told
 pub mod ToldGrids
+pub mod ToldRing

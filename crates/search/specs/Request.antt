@@ -1,8 +1,8 @@
 -- A search's arguments as one value, what they speak of, and what turns them back, in their order (rules F1 to F9, O1).
 use Rattle.std.specs.Prelude.{ℕ, ◌||◌, List, eqb, length}
 use Rattle.refusal.specs.declared.Refusal.TheVariants.{Fcode, Mode, BitsPerPixel, Seed}
-use Rattle.refusal.specs.declared.Reply.{Reply}
-use Rattle.refusal.specs.declared.Reply.TheVariants.{Done}
+use Rattle.refusal.specs.Reply.{Reply}
+use Rattle.std.specs.Prelude.{Ok}
 use Rattle.refusal.specs.Reply.{unless, and_then}
 use Rattle.refusal.specs.Bounds.{is_fcode, is_mode, is_bits}
 use Rattle.record.specs.declared.MotionVector.{MotionVector}
@@ -68,7 +68,7 @@ unfoldable pub settings_reply : ℕ → ℕ → ℕ → Reply
 settings_reply fcode mode bpp =
     unless (is_fcode fcode) Fcode
     (unless (is_mode mode) Mode
-    (unless (eqb mode 0 || is_bits bpp) BitsPerPixel Done))
+    (unless (eqb mode 0 || is_bits bpp) BitsPerPixel (Ok tt)))
 
 -- 1 .. 8
 unfoldable pub search_reply : SearchRequest → Reply
@@ -79,7 +79,7 @@ search_reply q =
 
 -- 9
 unfoldable pub seed_reply : ℕ → MotionVector → Reply
-seed_reply fcode seed = unless (vector_in fcode seed) Seed Done
+seed_reply fcode seed = unless (vector_in fcode seed) Seed (Ok tt)
 
 -- 1 .. 9
 unfoldable pub four_reply : SearchRequest → MotionVector → Reply

@@ -1,7 +1,7 @@
 -- Told, not believed: what the private functions here are told of settings, blocks and vectors.
 use Rattle.std.specs.Prelude.{ℕ, ◌<◌, ◌≤◌, true, List, ◌≡◌, ℤ, length}
 use Rattle.basis.specs.Parts.{above, below}
-use Rattle.refusal.specs.declared.Reply.TheVariants.{Done}
+use Rattle.std.specs.Prelude.{Ok}
 use Rattle.refusal.specs.Test.{between}
 use Rattle.record.specs.declared.MotionVector.{MotionVector}
 use Rattle.plane.specs.declared.Geometry.{Geometry}
@@ -19,14 +19,14 @@ use Rattle.search.specs.Range.{vector_in}
 
 -- what the settings have to be
 pub record Set (s : SearchSettings) : Type 0 where
-  pub mode_usable : mode_reply s.mode ≡ Done
+  pub mode_usable : mode_reply s.mode ≡ Ok tt
   pub fcode_usable : between 1 7 s.fcode ≡ true
 
 -- a macroblock that is not refused
 pub record Judged (y : List ℕ) (size : SourceSize) (at : MacroblockPlace) (samples : List ℕ) (g : Geometry) (s : SearchSettings) : Type 0 where
   pub settings : Set s
-  pub reference : reference_reply g (length samples) ≡ Done
-  pub luma : source_luma_reply size (length y) at ≡ Done
+  pub reference : reference_reply g (length samples) ≡ Ok tt
+  pub luma : source_luma_reply size (length y) at ≡ Ok tt
 
 -- ---- where blocks stand
 
@@ -48,7 +48,7 @@ pub record Placed (corner : Point) : Type 0 where
 pub record EightSought (macroblock : List ℕ) (n : ℕ) (samples : List ℕ) (t : Target) (s : SearchSettings) (seed : MotionVector) : Type 0 where
   pub samples_fit : length macroblock ≡ 256
   pub block_is : n < 4
-  pub reference : reference_reply t.geometry (length samples) ≡ Done
+  pub reference : reference_reply t.geometry (length samples) ≡ Ok tt
   pub sixteen : t.side ≡ 16
   pub placed : Placed t.corner
   pub settings : Set s
@@ -59,7 +59,7 @@ pub record EightSought (macroblock : List ℕ) (n : ℕ) (samples : List ℕ) (t
 -- a vector whose prediction is not refused
 pub record Predictable (source samples : List ℕ) (t : Target) (s : SearchSettings) (v : MotionVector) : Type 0 where
   pub ready : Ready source samples t
-  pub mode_usable : mode_reply s.mode ≡ Done
+  pub mode_usable : mode_reply s.mode ≡ Ok tt
   pub vector_in_is : vector_in_range v ≡ true
 
 -- a component and a step from it that fit

@@ -12,10 +12,10 @@ use Rattle.full_search.specs.declared.Scored.{Scored}
 use Rattle.full_search.specs.declared.Target.{Target}
 use Rattle.full_search.specs.Block.{Block, differences, row_by_row}
 use Rattle.full_search.specs.Costs.{consider}
-use Rattle.full_search.specs.Told.{Within, Ready}
+use Rattle.full_search.specs.Told.{Ready}
 use Rattle.full_search.specs.Window.{window_at}
 use Rattle.search.specs.Range.{vector_in}
-use Rattle.search.specs.Sub.{stepped, neighbour, ring_at, ring}
+use Rattle.search.specs.Sub.{stepped, neighbour, ring}
 
 -- the sum of a vector in half mode
 abbrev pub half_sum : ℕ → Block → MotionVector → ℕ
@@ -59,21 +59,11 @@ pub record Grids (side : ℕ) (source right under diagonal : List ℕ) : Type 0 
   pub under_fits : length under ≡ grid_size side
   pub diagonal_fits : length diagonal ≡ grid_size side
 
--- one place of the 3 x 3 around c on them
-pub record GridPlace (side : ℕ) (source right under diagonal : List ℕ) (fcode : ℕ) (c : MotionVector) (n : ℕ) : Type 0 where
-  pub grids : Grids side source right under diagonal
-  pub centre_small : Within 2048 c
-  pub fcode_usable : between 1 7 fcode ≡ true
-  pub place_is : n < 9
-
 -- the sums on the windows are those of the ring around c
 pub record RingSums (side : ℕ) (source right under diagonal : List ℕ) (fcode : ℕ) (c : MotionVector) (sum : MotionVector → ℕ) : Type 0 where
   pub each : (n : ℕ) → n < 9 → (n ≡ 4 → ⊥) → grid_sum side source right under diagonal n ≡ sum (neighbour fcode 1 c n)
 
--- whatever they are the sums of: of a best so far, what place n keeps, and what the ring keeps
-pub record PlaceKept (side : ℕ) (source right under diagonal : List ℕ) (fcode : ℕ) (c : MotionVector) (n : ℕ) (b r : Scored) : Type 0 where
-  pub kept : (sum : MotionVector → ℕ) → RingSums side source right under diagonal fcode c sum → r ≡ foldl (consider sum) b (ring_at fcode 1 c n)
-
+-- whatever they are the sums of: the best of b and the ring
 pub record RingKept (side : ℕ) (source right under diagonal : List ℕ) (fcode : ℕ) (c : MotionVector) (b r : Scored) : Type 0 where
   pub kept : (sum : MotionVector → ℕ) → RingSums side source right under diagonal fcode c sum → r ≡ foldl (consider sum) b (ring fcode 1 c)
 
@@ -93,9 +83,7 @@ pub record FreeStart (source samples : List ℕ) (t : Target) (fcode : ℕ) (v :
   pub vector_in_is : vector_in fcode v ≡ true
   pub is_free : free fcode v ≡ true
 
--- areas for a patch of `side` and its grids
-pub record PatchAreas (side : ℕ) (patch right under diagonal : List ℕ) : Type 0 where
-  pub patch_fits : length patch ≡ (side + 2) * (side + 2)
-  pub right_fits : length right ≡ grid_size side
-  pub under_fits : length under ≡ grid_size side
-  pub diagonal_fits : length diagonal ≡ grid_size side
+-- how many samples a patch of `side` and each of its grids have
+pub record Areas (side patch grid : ℕ) : Type 0 where
+  pub patch_fits : patch ≡ (side + 2) * (side + 2)
+  pub grid_fits : grid ≡ grid_size side

@@ -2,8 +2,7 @@
 // samples around the winner. It leans on what `full_search`, `prediction` and `plane` promise and repeats none of their arithmetic.
 #![tactic(auto)]
 
-ghost use Rattle.std.specs.Prelude.{◌≡◌, true, ◌*◌, ◌<◌, ◌≤◌, length};
-ghost use Rattle.refusal.specs.declared.Reply.TheVariants.{Done};
+ghost use Rattle.std.specs.Prelude.{◌≡◌, true, ◌*◌, ◌<◌, ◌≤◌, length, IfOk};
 ghost use Rattle.refusal.specs.Test.{between};
 ghost use Rattle.plane.specs.Plane.{plane_of};
 ghost use Rattle.plane.specs.Source.{eight_of};
@@ -25,42 +24,35 @@ mod range;
 mod sub;
 
 // What a search goes by: the mode of its vectors, their range, and the rounding type of the predictions that it sums.
-#[derive(Clone, Copy)]
+#[derive(Clone, Copy, Debug, PartialEq, Eq)]
 pub struct SearchSettings {
     pub mode: BVopSampleMode,
     pub fcode: u32,
     pub rounding: u8,
 }
 
-// A vector in vector units and its sum, both 0 where the search is refused.
-#[derive(Clone, Copy)]
+// A vector in vector units and its sum.
+#[derive(Clone, Copy, Debug, PartialEq, Eq)]
 pub struct Estimated {
-    pub reply: Reply,
     pub vector: MotionVector,
     pub sum: u32,
 }
 
-// The vectors of blocks 0 and 1 above 2 and 3, and their sums, all 0 where the search is refused.
-#[derive(Clone, Copy)]
+// The vectors of blocks 0 and 1 above 2 and 3, and their sums.
+#[derive(Clone, Copy, Debug, PartialEq, Eq)]
 pub struct EstimatedFour {
-    pub reply: Reply,
     pub vectors: [MotionVector; 4],
     pub sums: [u32; 4],
 }
 
 // 1, 2, 3
+#[tactic(auto, unfolding(crate::specs::Request::settings_reply))]
 pub fn settings_reply(fcode: u32, mode: u32, bpp: u32) -> Reply
     ensures { result ≡ settings_reply fcode mode bpp }
 {
-    let bits = refusal::either(mode == 0, refusal::between(1, 8, bpp as usize));
-    let third = refusal::unless(bits, Refusal::BitsPerPixel, Reply::Done);
-    let modes = refusal::either(mode == 0, mode == 1);
-    let second = refusal::unless(modes, Refusal::Mode, third);
-    refusal::unless(
-        refusal::between(1, 7, fcode as usize),
-        Refusal::Fcode,
-        second,
-    )
+    refusal::require((1..=7).contains(&fcode), Refusal::Fcode)?;
+    refusal::require(mode == 0 || mode == 1, Refusal::Mode)?;
+    refusal::require(mode == 0 || (1..=8).contains(&bpp), Refusal::BitsPerPixel)
 }
 
 fn settings_of(rounding: u8, mode: u32, bpp: u32, fcode: u32) -> SearchSettings
@@ -74,6 +66,7 @@ fn settings_of(rounding: u8, mode: u32, bpp: u32, fcode: u32) -> SearchSettings
 }
 
 // 1 .. 8
+#[tactic(auto, unfolding(crate::specs::Request::search_reply))]
 fn search_reply(
     source: &[u8],
     size: SourceSize,
@@ -86,9 +79,9 @@ fn search_reply(
 ) -> Reply
     ensures { result ≡ search_reply (search_request source.now size place reference.now geometry mode bpp fcode) }
 {
-    let last = plane::source::luma_reply(size, source.len(), place);
-    let second = refusal::and_then(plane::reference_reply(geometry, reference.len()), last);
-    refusal::and_then(settings_reply(fcode, mode, bpp), second)
+    settings_reply(fcode, mode, bpp)?;
+    plane::reference_reply(geometry, reference.len())?;
+    plane::source::luma_reply(size, source.len(), place)
 }
 
 // Where a macroblock stands.
@@ -96,13 +89,12 @@ fn macroblock_target(geometry: Geometry, place: MacroblockPlace) -> Target
     requires { (16 * place.column ≤ 4080) × (16 * place.row ≤ 4080) }
     ensures { result ≡ macroblock_target geometry place }
 {
-    let corner = Point {
-        x: (16 * place.column) as i32,
-        y: (16 * place.row) as i32,
-    };
     Target {
         geometry,
-        corner,
+        corner: Point {
+            x: (16 * place.column) as i32,
+            y: (16 * place.row) as i32,
+        },
         side: 16,
     }
 }
@@ -120,15 +112,16 @@ fn one_vector(
     ensures { result ≡ one_vector settings (macroblock source.now size place (plane_of reference.now geometry)) }
 {
     let mut block = [0u8; 256];
-    plane::source::luma_block(source, size, place, &mut block);
+    plane::source::luma_block(source, size, place, &mut block).unwrap();
     let target = macroblock_target(geometry, place);
     let w = range::full_pel_window(settings);
-    let won = full_search::search_sixteen(&block, reference, target, settings.fcode, w);
-    let winner = won.best;
+    // A target that was judged is not refused.
+    let winner = full_search::search_sixteen(&block, reference, target, settings.fcode, w).unwrap();
     sub::refine_subpel(&block, reference, target, settings, winner)
 }
 
 // The vector in vector units that the candidate rule finds for a macroblock, and its sum: 1, 2, 3, 4, 5, 6, 7, 8.
+#[tactic(auto, unfolding(crate::specs::Estimate::estimate_motion))]
 pub fn estimate_motion(
     source: &[u8],
     size: SourceSize,
@@ -138,41 +131,32 @@ pub fn estimate_motion(
     mode: u32,
     bpp: u32,
     fcode: u32,
-) -> Estimated
+) -> Result<Estimated, Refusal>
     ensures value { let q = search_request source.now size place reference.now geometry mode bpp fcode in
         result ≡ estimate_motion q }
     ensures one_vector { let q = search_request source.now size place reference.now geometry mode bpp fcode in
-        result.reply ≡ Done → OneVector (settings_in 0 q) (sought q) result.vector result.sum }
+        IfOk result (λ found. OneVector (settings_in 0 q) (sought q) found.vector found.sum) }
 {
-    let reply = search_reply(source, size, place, reference, geometry, mode, bpp, fcode);
-    match reply {
-        Reply::Refused(why) => Estimated {
-            reply: Reply::Refused(why),
-            vector: record::zero_vector(),
-            sum: 0,
-        },
-        Reply::Done => {
-            let settings = settings_of(0, mode, bpp, fcode);
-            let best = one_vector(source, size, place, reference, geometry, settings);
-            let vector = best.vector;
-            Estimated {
-                reply: Reply::Done,
-                vector,
-                sum: best.cost,
-            }
-        }
-    }
+    search_reply(source, size, place, reference, geometry, mode, bpp, fcode)?;
+    let settings = settings_of(0, mode, bpp, fcode);
+    let best = one_vector(source, size, place, reference, geometry, settings);
+    Ok(Estimated {
+        vector: best.vector,
+        sum: best.cost,
+    })
 }
 
 // 9
+#[tactic(auto, unfolding(crate::specs::Request::seed_reply))]
 fn seed_reply(fcode: u32, seed: MotionVector) -> Reply
     requires { between 1 7 fcode ≡ true }
     ensures { result ≡ seed_reply fcode seed }
 {
-    refusal::unless(range::vector_in(seed, fcode), Refusal::Seed, Reply::Done)
+    refusal::require(range::vector_in(seed, fcode), Refusal::Seed)
 }
 
 // 1 .. 9
+#[tactic(auto, unfolding(crate::specs::Request::four_reply))]
 fn four_reply(
     source: &[u8],
     size: SourceSize,
@@ -186,10 +170,8 @@ fn four_reply(
 ) -> Reply
     ensures { result ≡ four_reply (search_request source.now size place reference.now geometry mode bpp fcode) seed }
 {
-    match search_reply(source, size, place, reference, geometry, mode, bpp, fcode) {
-        Reply::Refused(why) => Reply::Refused(why),
-        Reply::Done => seed_reply(fcode, seed),
-    }
+    search_reply(source, size, place, reference, geometry, mode, bpp, fcode)?;
+    seed_reply(fcode, seed)
 }
 
 // The samples of 8 x 8 block n of a macroblock.
@@ -206,7 +188,7 @@ fn eight_samples(macroblock: &[u8], n: usize, out: &mut [u8])
         x: (8 * (n % 2)) as i32,
         y: (8 * (n / 2)) as i32,
     };
-    plane::copy_block(macroblock, whole, at, 8, 8, out);
+    plane::copy_block(macroblock, whole, at, 8, 8, out).unwrap();
 }
 
 // Where 8 x 8 block n of a macroblock stands.
@@ -214,16 +196,13 @@ fn eight_target(target: Target, n: usize) -> Target
     requires { Placed target.corner × (n < 4) }
     ensures { result ≡ eight_target target n }
 {
-    let geometry = target.geometry;
-    let whole = target.corner;
-    let corner = Point {
-        x: whole.x + (8 * (n % 2)) as i32,
-        y: whole.y + (8 * (n / 2)) as i32,
-    };
     Target {
-        geometry,
-        corner,
+        corner: Point {
+            x: target.corner.x + (8 * (n % 2)) as i32,
+            y: target.corner.y + (8 * (n / 2)) as i32,
+        },
         side: 8,
+        ..target
     }
 }
 
@@ -243,9 +222,15 @@ fn block_vector(
     eight_samples(macroblock, n, &mut block);
     let part = eight_target(target, n);
     let w = range::full_pel_window(settings);
-    let mode = settings.mode;
-    let won = full_search::search_eight(&block, reference, part, mode, w, seed);
-    let winner = won.best;
+    // A block of a target that was judged is not refused.
+    let winner = full_search::search_eight(
+        &block,
+        reference,
+        part,
+        settings.mode,
+        w,
+        seed,
+    ).unwrap();
     sub::refine_subpel(&block, reference, part, settings, winner)
 }
 
@@ -263,24 +248,20 @@ fn four_vectors(
     ensures { result ≡ four_vectors_of settings seed (macroblock source.now size place (plane_of reference.now geometry)) }
 {
     let mut block = [0u8; 256];
-    plane::source::luma_block(source, size, place, &mut block);
+    plane::source::luma_block(source, size, place, &mut block).unwrap();
     let target = macroblock_target(geometry, place);
     let a = block_vector(&block, 0, reference, target, settings, seed);
     let b = block_vector(&block, 1, reference, target, settings, seed);
     let c = block_vector(&block, 2, reference, target, settings, seed);
     let d = block_vector(&block, 3, reference, target, settings, seed);
-    let va = a.vector;
-    let vb = b.vector;
-    let vc = c.vector;
-    let vd = d.vector;
     EstimatedFour {
-        reply: Reply::Done,
-        vectors: [va, vb, vc, vd],
+        vectors: [a.vector, b.vector, c.vector, d.vector],
         sums: [a.cost, b.cost, c.cost, d.cost],
     }
 }
 
 // The vectors of a macroblock's four 8 x 8 blocks around a seed in vector units, and their sums: 1, 2, 3, 4, 5, 6, 7, 8, 9.
+#[tactic(auto, unfolding(crate::specs::Estimate::estimate_four))]
 pub fn estimate_motion_4mv(
     source: &[u8],
     size: SourceSize,
@@ -291,25 +272,15 @@ pub fn estimate_motion_4mv(
     bpp: u32,
     fcode: u32,
     seed: MotionVector,
-) -> EstimatedFour
+) -> Result<EstimatedFour, Refusal>
     ensures value { let q = search_request source.now size place reference.now geometry mode bpp fcode in
         result ≡ estimate_four q seed }
     ensures four_vectors { let q = search_request source.now size place reference.now geometry mode bpp fcode in
-        result.reply ≡ Done → FourVectors (settings_in 0 q) seed (sought q) result.vectors result.sums }
+        IfOk result (λ found. FourVectors (settings_in 0 q) seed (sought q) found.vectors found.sums) }
 {
-    let reply = four_reply(
+    four_reply(
         source, size, place, reference, geometry, mode, bpp, fcode, seed,
-    );
-    let zero = record::zero_vector();
-    match reply {
-        Reply::Refused(why) => EstimatedFour {
-            reply: Reply::Refused(why),
-            vectors: [zero; 4],
-            sums: [0; 4],
-        },
-        Reply::Done => {
-            let settings = settings_of(0, mode, bpp, fcode);
-            four_vectors(source, size, place, reference, geometry, settings, seed)
-        }
-    }
+    )?;
+    let settings = settings_of(0, mode, bpp, fcode);
+    Ok(four_vectors(source, size, place, reference, geometry, settings, seed))
 }

@@ -2,25 +2,18 @@
 ghost use Rattle.std.specs.Prelude.{◌≡◌, true, ◌≤◌};
 ghost use Rattle.refusal.specs.Test.{between};
 ghost use Rattle.prediction.specs.Luma.{units_per_pel};
-ghost use Rattle.search.specs.Range.{range, vector_in, clamped, window};
+ghost use Rattle.search.specs.Range.{range, low, high, vector_in, clamped, window};
 
 use crate::SearchSettings;
 use prediction::BVopSampleMode;
 use record::MotionVector;
 
+#[tactic(auto, using(crate::proofs::InRange::range_least, crate::proofs::InRange::range_most), unfolding(crate::specs::Range::range))]
 pub fn range(fcode: u32) -> usize
     requires { between 1 7 fcode ≡ true }
     ensures { (result ≡ range fcode) × (32 ≤ result) × (result ≤ 2048) }
 {
-    match fcode {
-        1 => 32,
-        2 => 64,
-        3 => 128,
-        4 => 256,
-        5 => 512,
-        6 => 1024,
-        _ => 2048,
-    }
+    32 << (fcode - 1)
 }
 
 pub fn units_per_pel(mode: BVopSampleMode) -> usize
@@ -32,17 +25,26 @@ pub fn units_per_pel(mode: BVopSampleMode) -> usize
     }
 }
 
+#[tactic(auto, unfolding(crate::specs::Range::window))]
 pub fn full_pel_window(settings: SearchSettings) -> usize
     requires { between 1 7 settings.fcode ≡ true }
     ensures { result ≡ window settings }
 {
-    let fcode = settings.fcode;
-    if fcode == 1 {
+    if settings.fcode == 1 {
         return 8;
     }
-    let mode = settings.mode;
-    let w = range(fcode) / units_per_pel(mode) - 1;
-    if w < 8 { 8 } else { w }
+    (range(settings.fcode) / units_per_pel(settings.mode) - 1).max(8)
+}
+
+// The least and the greatest part of a vector in the range of fcode.
+#[tactic(auto, using(crate::proofs::Ends::low_read, crate::proofs::Ends::high_read))]
+fn ends(fcode: u32) -> (i32, i32)
+    requires { between 1 7 fcode ≡ true }
+    ensures low { result.0 ≡ low fcode }
+    ensures high { result.1 ≡ high fcode }
+{
+    let n = range(fcode) as i32;
+    (-n, n - 1)
 }
 
 // A vector, clamped into the range of fcode.
@@ -50,10 +52,11 @@ pub fn clamped(v: MotionVector, fcode: u32) -> MotionVector
     requires { between 1 7 fcode ≡ true }
     ensures { result ≡ clamped fcode v }
 {
-    let n = range(fcode) as i32;
-    let x = basis::clamp(v.x, -n, n - 1);
-    let y = basis::clamp(v.y, -n, n - 1);
-    MotionVector { x, y }
+    let (low, high) = ends(fcode);
+    MotionVector {
+        x: basis::clamp(v.x, low, high),
+        y: basis::clamp(v.y, low, high),
+    }
 }
 
 // Whether both parts of a vector are in the range of fcode.
@@ -61,7 +64,6 @@ pub fn vector_in(v: MotionVector, fcode: u32) -> bool
     requires { between 1 7 fcode ≡ true }
     ensures { result ≡ vector_in fcode v }
 {
-    let n = range(fcode) as i32;
-    let x = refusal::in_range(-n, n - 1, v.x);
-    refusal::both(x, refusal::in_range(-n, n - 1, v.y))
+    let (low, high) = ends(fcode);
+    (low..=high).contains(&v.x) && (low..=high).contains(&v.y)
 }

@@ -1,8 +1,7 @@
 // The refinement around a full-sample winner: its vector, clamped, then the half ring, in quarter mode the quarter ring.
-ghost use Rattle.std.specs.Prelude.{◌≡◌, true, ◌*◌, ◌/◌, ◌<◌, ◌≤◌, pos, ◌*ℤ◌, length};
+ghost use Rattle.std.specs.Prelude.{◌≡◌, true, ◌/◌, ◌<◌, ◌≤◌, pos, ◌*ℤ◌};
 ghost use mathlib.Core.List.{foldl};
 ghost use Rattle.basis.specs.Parts.{above, below};
-ghost use Rattle.prediction.specs.declared.BVopSampleMode.TheVariants.{HalfPel};
 ghost use Rattle.prediction.specs.Luma.{units_per_pel};
 ghost use Rattle.refusal.specs.Test.{between};
 ghost use Rattle.full_search.specs.Costs.{consider, at_cost};
@@ -10,8 +9,9 @@ ghost use Rattle.full_search.specs.Block.{block_of};
 ghost use Rattle.full_search.specs.Told.{Within, Ready};
 ghost use Rattle.search.specs.Range.{vector_in};
 ghost use Rattle.search.specs.Sums.{vector_sum};
-ghost use Rattle.search.specs.Sub.{stepped, neighbour, ring_at, ring, start, refined};
+ghost use Rattle.search.specs.Sub.{stepped, neighbour, ring, start, refined};
 ghost use Rattle.search.specs.ToldGrids.{beside};
+ghost use Rattle.search.specs.ToldRing.{Centre, CallableAround, KeptBy};
 ghost use Rattle.search.specs.Told.{Set, Predictable, Stepping, Neighbouring, Ringed};
 
 use crate::{SearchSettings, grids, range};
@@ -19,32 +19,6 @@ use full_search::{Scored, Target};
 use plane::Site;
 use prediction::BVopSampleMode;
 use record::MotionVector;
-
-// The sum of a vector; `predicted` is where its prediction is written.
-fn predicted_sum(
-    source: &[u8],
-    reference: &[u8],
-    target: Target,
-    settings: SearchSettings,
-    vector: MotionVector,
-    predicted: &mut [u8],
-) -> u32
-    requires { Predictable source.now reference.now target settings vector × (length predicted.old ≡ target.side * target.side) }
-    ensures { result ≡ vector_sum settings (block_of source.now reference.now target) vector }
-{
-    let side = target.side;
-    let corner = target.corner;
-    let geometry = target.geometry;
-    let mode = settings.mode;
-    let rounding = settings.rounding;
-    let site = Site {
-        corner,
-        width: side,
-        height: side,
-    };
-    prediction::interpolate_block(reference, geometry, mode, site, vector, rounding, predicted);
-    full_search::block_sum(source, predicted, side)
-}
 
 // The sum of a vector in range.
 fn vector_sum(
@@ -57,17 +31,26 @@ fn vector_sum(
     requires { Predictable source.now reference.now target settings vector }
     ensures { result ≡ vector_sum settings (block_of source.now reference.now target) vector }
 {
-    let mut predicted = [0u8; 256];
     let side = target.side;
-    let size = side * side;
-    predicted_sum(
-        source,
+    let mut area = [0u8; 256];
+    let predicted = &mut area[..side * side];
+    let site = Site {
+        corner: target.corner,
+        width: side,
+        height: side,
+    };
+    // A vector in range is not refused.
+    prediction::interpolate_block(
         reference,
-        target,
-        settings,
+        target.geometry,
+        settings.mode,
+        site,
         vector,
-        &mut predicted[0..size],
+        settings.rounding,
+        predicted,
     )
+    .unwrap();
+    full_search::block_sum(source, predicted, side)
 }
 
 fn stepped(z: i32, step: usize, k: usize) -> i32
@@ -93,32 +76,29 @@ pub fn neighbour(c: MotionVector, fcode: u32, step: usize, n: usize) -> MotionVe
     requires { Neighbouring c fcode step n }
     ensures { result ≡ neighbour fcode step c n }
 {
-    let moved = beside(c, step, n);
-    range::clamped(moved, fcode)
+    range::clamped(beside(c, step, n), fcode)
 }
 
-// Place n of the 3 x 3 around the best so far; b is the best of the places before it. The centre is passed over.
-fn ring_place(
-    source: &[u8],
-    reference: &[u8],
-    target: Target,
-    settings: SearchSettings,
-    step: usize,
+// The eight around the best so far; `cost` gives the sum of place n, whose vector it is told too. The centre is passed over.
+pub fn ring<F: Fn(usize, MotionVector) -> u32>(
     best: Scored,
-    n: usize,
-    b: Scored,
+    fcode: u32,
+    step: usize,
+    cost: F,
 ) -> Scored
-    requires { Ringed source.now reference.now target settings step best.vector × (n < 9) }
-    ensures { let sum = vector_sum settings (block_of source.now reference.now target) in
-        result ≡ foldl (consider sum) b (ring_at settings.fcode step best.vector n) }
+    requires around { Centre fcode step best.vector }
+    requires callable { CallableAround (λ n v. F.pre cost n v) fcode step best.vector }
+    ensures { KeptBy (λ n v r. F.post cost n v r) fcode step best.vector best result }
 {
-    if n == 4 {
-        return b;
+    let mut b = best;
+    for n in 0..9 {
+        if n != 4 {
+            let centre = best.vector;
+            let v = neighbour(centre, fcode, step, n);
+            b = full_search::consider(b, v, cost(n, v));
+        }
     }
-    let centre = best.vector;
-    let v = neighbour(centre, settings.fcode, step, n);
-    let sum = vector_sum(source, reference, target, settings, v);
-    full_search::consider(b, v, sum)
+    b
 }
 
 // The eight neighbours of the best so far.
@@ -134,11 +114,12 @@ fn ring_search(
     ensures { let sum = vector_sum settings (block_of source.now reference.now target) in
         result ≡ foldl (consider sum) best (ring settings.fcode step best.vector) }
 {
-    let mut b = best;
-    for n in 0..9 {
-        b = ring_place(source, reference, target, settings, step, best, n, b);
-    }
-    b
+    ring(
+        best,
+        settings.fcode,
+        step,
+        |_, v| vector_sum(source, reference, target, settings, v),
+    )
 }
 
 // The best of a vector and the ring around it.
@@ -159,27 +140,7 @@ fn ring_best(
     ring_search(source, reference, target, settings, step, first)
 }
 
-// In half mode, by way of grids wherever the start allows it.
-fn half_mode_best(
-    source: &[u8],
-    reference: &[u8],
-    target: Target,
-    settings: SearchSettings,
-    vector: MotionVector,
-) -> Scored
-    requires { Ringed source.now reference.now target settings 1 vector × (settings.mode ≡ HalfPel) }
-    ensures { let sum = vector_sum settings (block_of source.now reference.now target) in
-        result ≡ foldl (consider sum) (at_cost sum vector) (ring settings.fcode 1 vector) }
-{
-    let fcode = settings.fcode;
-    let rounding = settings.rounding;
-    if grids::is_free(vector, fcode) {
-        return grids::half_best(source, reference, target, rounding, fcode, vector);
-    }
-    ring_best(source, reference, target, settings, 1, vector)
-}
-
-// The best of a start and the eight half a sample around it.
+// The best of a start and the eight half a sample around it; in half mode by way of grids wherever the start allows it.
 fn half_best(
     source: &[u8],
     reference: &[u8],
@@ -191,9 +152,12 @@ fn half_best(
     ensures { let sum = vector_sum settings (block_of source.now reference.now target) in
         result ≡ foldl (consider sum) (at_cost sum vector) (ring settings.fcode (units_per_pel settings.mode / 2) vector) }
 {
-    let mode = settings.mode;
-    match mode {
-        BVopSampleMode::HalfPel => half_mode_best(source, reference, target, settings, vector),
+    let fcode = settings.fcode;
+    match settings.mode {
+        BVopSampleMode::HalfPel if grids::is_free(vector, fcode) => {
+            grids::half_best(source, reference, target, settings.rounding, fcode, vector)
+        }
+        BVopSampleMode::HalfPel => ring_best(source, reference, target, settings, 1, vector),
         BVopSampleMode::QuarterPel(_) => {
             ring_best(source, reference, target, settings, 2, vector)
         }
@@ -212,8 +176,7 @@ fn start(d: MotionVector, settings: SearchSettings) -> MotionVector
     requires { Within 4096 d × (between 1 7 settings.fcode ≡ true) }
     ensures { result ≡ start settings d }
 {
-    let mode = settings.mode;
-    let units = range::units_per_pel(mode);
+    let units = range::units_per_pel(settings.mode);
     let vector = MotionVector {
         x: scaled(d.x, units),
         y: scaled(d.y, units),
@@ -234,11 +197,9 @@ pub fn refine_subpel(
     ensures { let sum = vector_sum settings (block_of source.now reference.now target) in
         result ≡ refined sum settings winner.vector }
 {
-    let d = winner.vector;
-    let vector = start(d, settings);
+    let vector = start(winner.vector, settings);
     let half = half_best(source, reference, target, settings, vector);
-    let mode = settings.mode;
-    match mode {
+    match settings.mode {
         BVopSampleMode::HalfPel => half,
         BVopSampleMode::QuarterPel(_) => {
             ring_search(source, reference, target, settings, 1, half)

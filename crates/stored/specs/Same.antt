@@ -12,42 +12,50 @@ up_to start p (suc n) = up_to start p n && p n
 unfoldable pub answered_of : List ℕ → ℕ → ℕ
 answered_of l k = cond (eqb (reply_at l) 0) (count_of l k) 0
 
+-- how an area of one type of element is held to the stored one
+pub record Kind (T : Type 0) : Type 0 where
+  -- element i of an area that stands at p
+  pub element : List ℕ → ℕ → ℕ → T
+  -- what every lent area is full of
+  pub untouched : T
+  -- what is read past an area's end, where nothing is asked for
+  pub none : T
+  -- whether an element is the one that is wanted
+  pub is : T → T → Bool
+
+abbrev pub byte_kind : Kind ℕ
+byte_kind = record { element = λ l p i. get_or l (p + i) 0; untouched = 165; none = 0; is = eqb }
+
+abbrev pub word_kind : Kind ℕ
+word_kind = record { element = λ l p i. word_at l (p + 4 * i); untouched = 2779096485; none = 0; is = eqb }
+
+abbrev pub long_kind : Kind ℕ
+long_kind = record { element = λ l p i. long_at l (p + 8 * i); untouched = 11936128518282651045; none = 0; is = eqb }
+
+abbrev pub signed_kind : Kind ℤ
+signed_kind =
+    record { element = λ l p i. signed_at l (p + 4 * i); untouched = negsuc 1515870810; none = pos 0; is = λ x wanted. in_range wanted wanted x }
+
 -- element i of an area whose answer of n elements stands at p
-abbrev pub wanted_byte : List ℕ → ℕ → ℕ → ℕ → ℕ
-wanted_byte l p n i = cond (ltb i n) (get_or l (p + i) 0) 165
-
-abbrev pub wanted_word : List ℕ → ℕ → ℕ → ℕ → ℕ
-wanted_word l p n i = cond (ltb i n) (word_at l (p + 4 * i)) 2779096485
-
-abbrev pub wanted_signed : List ℕ → ℕ → ℕ → ℕ → ℤ
-wanted_signed l p n i = cond (ltb i n) (signed_at l (p + 4 * i)) (negsuc 1515870810)
-
-abbrev pub wanted_long : List ℕ → ℕ → ℕ → ℕ → ℕ
-wanted_long l p n i = cond (ltb i n) (long_at l (p + 8 * i)) 11936128518282651045
+abbrev pub wanted : {T : Type 0} → Kind T → List ℕ → ℕ → ℕ → ℕ → T
+wanted kind l p n i = cond (ltb i n) (kind.element l p i) kind.untouched
 
 -- whether element i is the stored one
-abbrev pub byte_is : List ℕ → ℕ → List ℕ → ℕ → Bool
-byte_is l k area i = eqb (get_or area i 0) (wanted_byte l (position_of l k) (answered_of l k) i)
-
-abbrev pub word_is : List ℕ → ℕ → List ℕ → ℕ → Bool
-word_is l k area i = eqb (get_or area i 0) (wanted_word l (position_of l k) (answered_of l k) i)
-
-abbrev pub long_is : List ℕ → ℕ → List ℕ → ℕ → Bool
-long_is l k area i = eqb (get_or area i 0) (wanted_long l (position_of l k) (answered_of l k) i)
-
-abbrev pub signed_is : List ℕ → ℕ → List ℤ → ℕ → Bool
-signed_is l k area i =
-    in_range (wanted_signed l (position_of l k) (answered_of l k) i) (wanted_signed l (position_of l k) (answered_of l k) i) (get_or area i (pos 0))
+abbrev pub element_is : {T : Type 0} → Kind T → List ℕ → ℕ → List T → ℕ → Bool
+element_is kind l k area i = kind.is (get_or area i kind.none) (wanted kind l (position_of l k) (answered_of l k) i)
 
 -- an area has room for the answer, and each of its elements is the stored one
-unfoldable pub bytes_same : List ℕ → ℕ → List ℕ → Bool
-bytes_same l k area = up_to (leb (answered_of l k) (length area)) (byte_is l k area) (length area)
+unfoldable pub area_same : {T : Type 0} → Kind T → List ℕ → ℕ → List T → Bool
+area_same kind l k area = up_to (leb (answered_of l k) (length area)) (element_is kind l k area) (length area)
 
-unfoldable pub words_same : List ℕ → ℕ → List ℕ → Bool
-words_same l k area = up_to (leb (answered_of l k) (length area)) (word_is l k area) (length area)
+abbrev pub bytes_same : List ℕ → ℕ → List ℕ → Bool
+bytes_same = area_same byte_kind
 
-unfoldable pub longs_same : List ℕ → ℕ → List ℕ → Bool
-longs_same l k area = up_to (leb (answered_of l k) (length area)) (long_is l k area) (length area)
+abbrev pub words_same : List ℕ → ℕ → List ℕ → Bool
+words_same = area_same word_kind
 
-unfoldable pub signeds_same : List ℕ → ℕ → List ℤ → Bool
-signeds_same l k area = up_to (leb (answered_of l k) (length area)) (signed_is l k area) (length area)
+abbrev pub longs_same : List ℕ → ℕ → List ℕ → Bool
+longs_same = area_same long_kind
+
+abbrev pub signeds_same : List ℕ → ℕ → List ℤ → Bool
+signeds_same = area_same signed_kind

@@ -1,11 +1,11 @@
 -- `clip::macroblock_words` meets its contract.
 use Prim.Native.Nat.{ℕ}
 use mathlib.Core.List.{List, [], ◌∷◌, ◌++◌}
-use mathlib.Core.Path.{◌≡◌, ap, ◌∙◌}
+use mathlib.Core.Path.{◌≡◌}
 use Rattle.clip.specs.declared.Text.{Text}
 use Rattle.clip.specs.Decimal.{decimal}
 use Rattle.clip.specs.Line.{spaced, concatenated, vector_words, macroblock_words}
-use Rattle.clip.specs.ToldPush.{text_in, pushes}
+use Rattle.clip.specs.ToldPush.{pushes}
 use Rattle.clip.proofs.Lines.{begun, concatenated_more, word_known}
 use Rattle.clip.proofs.macroblock_words.Goals as goal
 
@@ -20,16 +20,14 @@ unfolding macroblock_words
 returns c =
     let a = c.args in
     let m = a.given in
-    let t = text_in a.bytes.now 0 in
+    let t = a.line.now in
     let w = decimal a.column in
     let v = decimal a.row ∷ vector_words m.vector in
     let p = v ++ (decimal m.sum ∷ []) in
     let q = p ++ (decimal m.luma_pattern ∷ []) in
-    more t _ w (q ++ (decimal m.chroma_pattern ∷ [])) c.word.ensures c.event_count.ensures
-    (more t _ w q c.word-chroma.ensures c.wide8-2.ensures.0
-    (more t _ w p c.word-luma.ensures c.wide8.ensures.0
-    (more t _ w v c.word-summed.ensures c.wide32.ensures.0
-    (concatenated_more t w (decimal a.row ∷ []) (vector_words m.vector) c.vector_words-moved.ensures
-    (more t _ w [] c.word-place.ensures c.wide-2.ensures
-    (begun t w
-    (c.number-start.ensures ∙ ap (λ (n : ℕ). pushes t (decimal n)) c.wide.ensures)))))))
+    more t _ w (q ++ (decimal m.chroma_pattern ∷ [])) c.word-5.ensures c.event_count.ensures
+    (more t _ w q c.word-4.ensures c.from-3.ensures
+    (more t _ w p c.word-3.ensures c.from-2.ensures
+    (more t _ w v c.word-2.ensures c.from.ensures
+    (concatenated_more t w (decimal a.row ∷ []) (vector_words m.vector) c.vector_words.ensures
+    (concatenated_more t w [] (decimal a.row ∷ []) c.word.ensures (begun t w c.number.ensures))))))

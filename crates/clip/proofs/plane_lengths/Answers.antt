@@ -1,43 +1,32 @@
 -- `clip::plane_lengths` meets its contract.
 use native.Mathlib.Omega.{arith}
 use mathlib.Core.Path.{◌≡◌, sym, ◌∙◌}
-use Rattle.refusal.specs.declared.Reply.TheVariants.{Done}
-use Rattle.clip.specs.declared.Head.{Head}
+use Rattle.std.specs.Prelude.{Ok}
 use Rattle.clip.specs.Header.{head_reply}
 use Rattle.clip.proofs.Whole.{Small, small, luma_small, chroma_small, announced}
-use Rattle.clip.proofs.plane_lengths.Goals.{In-Done}
+use Rattle.clip.proofs.plane_lengths.Goals.{In-Ok}
 use Rattle.clip.proofs.plane_lengths.Goals as goal
 
 -- where the header is not refused
-module _ (c : In-Done) where
-  abbrev head : Head
-  head = c.args.head
+whole : (c : In-Ok) → head_reply c.args.head ≡ Ok tt
+whole c = sym c.head_reply.ensures ∙ c.in-Ok.is
 
-  whole : head_reply head ≡ Done
-  whole = sym c.head_reply.ensures ∙ c.in-Done.is
-
-  sides : Small head
-  sides = small head whole
+sides : (c : In-Ok) → Small c.args.head
+sides c = small _ (whole c)
 
 pub overflow_mul-result : goal.overflow_mul-result
-overflow_mul-result c = omega (arith, luma_small (head (goal.at.overflow_mul-result c).In-Done) (sides (goal.at.overflow_mul-result c).In-Done))
+overflow_mul-result c = record { fits = omega (arith, luma_small _ (sides (goal.at.overflow_mul-result c).In-Ok)) }
 
 pub overflow_add-result : goal.overflow_add-result
-overflow_add-result c = omega (arith, (sides (goal.at.overflow_add-result c).In-Done).wide)
+overflow_add-result c = record { fits = omega (arith, (sides (goal.at.overflow_add-result c).In-Ok).wide) }
 
-pub overflow_add-result-in-Done : goal.overflow_add-result-in-Done
-overflow_add-result-in-Done c = omega (arith, (sides (goal.at.overflow_add-result-in-Done c).In-Done).high)
+pub overflow_add-result-in-Ok : goal.overflow_add-result-in-Ok
+overflow_add-result-in-Ok c = record { fits = omega (arith, (sides (goal.at.overflow_add-result-in-Ok c).In-Ok).high) }
 
-pub overflow_mul-result-in-Done : goal.overflow_mul-result-in-Done
-overflow_mul-result-in-Done c =
-    let k = (goal.at.overflow_mul-result-in-Done c).In-Done in
-    omega (arith, chroma_small (head k) (sides k))
+pub overflow_mul-result-in-Ok : goal.overflow_mul-result-in-Ok
+overflow_mul-result-in-Ok c = record { fits = omega (arith, chroma_small _ (sides (goal.at.overflow_mul-result-in-Ok c).In-Ok)) }
 
-pub returns-in-Done : goal.returns-in-Done
-returns-in-Done c =
-    let k = (goal.at.returns-in-Done c).In-Done in
-    (sym (announced (head k) Done (whole k)), luma_small (head k) (sides k), chroma_small (head k) (sides k))
-
-pub returns-in-Refused : goal.returns-in-Refused
-returns-in-Refused c =
-    (sym (announced c.args.head _ (sym c.head_reply.ensures ∙ c.in-Refused.is)), omega arith, omega arith)
+pub returns-in-Ok : goal.returns-in-Ok
+returns-in-Ok c =
+    let k = (goal.at.returns-in-Ok c).In-Ok in
+    (sym (announced _ (Ok tt) (whole k)), luma_small _ (sides k), chroma_small _ (sides k))

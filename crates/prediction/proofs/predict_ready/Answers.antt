@@ -4,7 +4,7 @@ use mathlib.Core.List.{List, [], ◌∷◌}
 use mathlib.Core.Path.{◌≡◌, refl, sym, ap, ◌∙◌, subst}
 use lib.ListN.{length, get_or}
 use Rattle.basis.specs.Lists.{raster}
-use Rattle.refusal.specs.declared.Reply.{Reply}
+use Rattle.refusal.specs.Reply.{Reply}
 use Rattle.refusal.specs.Reply.{done}
 use Rattle.plane.specs.Plane.{plane_of}
 use Rattle.plane.specs.Corner.{square_at}

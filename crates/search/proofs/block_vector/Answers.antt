@@ -9,8 +9,9 @@ use Rattle.basis.proofs.Lists.{length-raster}
 use Rattle.record.specs.declared.MotionVector.{MotionVector}
 use Rattle.plane.specs.Reference.{vector_in_range}
 use Rattle.plane.specs.Source.{eight_of}
+use Rattle.std.specs.Prelude.{Ok, IsOk}
+use Rattle.full_search.specs.declared.Scored.{Scored}
 use Rattle.full_search.specs.declared.Target.{Target}
-use Rattle.full_search.specs.declared.Won.{Won}
 use Rattle.full_search.specs.Block.{Block, block_of, copied_sum}
 use Rattle.full_search.specs.Full.{four_winner}
 use Rattle.full_search.specs.Told.{Within, Ready}
@@ -25,7 +26,7 @@ use Rattle.search.specs.Told.{eight_target}
 use Rattle.search.proofs.Eights.{part_of, eight_inside, searched, copied_vector}
 use Rattle.search.proofs.InRange.{in_interpolation}
 use Rattle.search.proofs.Windows.{window_most}
-use Rattle.search.proofs.block_vector.Goals.{After-eight_samples, After-search_eight-won, Start}
+use Rattle.search.proofs.block_vector.Goals.{After-eight_samples, After-search_eight, After-unwrap-winner, Start}
 use Rattle.search.proofs.block_vector.Goals as goal
 
 module _ (s : Start) where
@@ -41,6 +42,9 @@ module _ (s : Start) where
 
   abbrev winner : MotionVector
   winner = four_winner (copied_sum block_at) (window s.args.settings) s.args.settings.mode s.args.seed
+
+  abbrev best_in : Scored
+  best_in = eight_best block_at s.args.settings.mode (window s.args.settings) s.args.seed
 
   ready : (l : List ℕ) → l ≡ samples_in → Ready l s.args.reference.now target_in
   ready l e =
@@ -69,19 +73,27 @@ start_at c = (goal.at.After-eight_samples c).Start
 abbrev local : After-eight_samples → List ℕ
 local c = c.eight_samples.new.out
 
-found : (c : After-search_eight-won) → c.search_eight-won.result.best.vector ≡ winner (start_at (goal.at.After-search_eight-won c).After-eight_samples)
-unfolding eight_best
-found c =
-    let s = (goal.at.After-search_eight-won c).Start in
+-- the search is not refused
+told : (c : After-search_eight) → c.search_eight.result ≡ Ok (best_in (start_at (goal.at.After-search_eight c).After-eight_samples))
+told c =
+    let s = (goal.at.After-search_eight c).Start in
     let a = c.args in
     let e = c.eight_samples.ensures in
     let t = c.eight_target-part.ensures in
     let n = c.full_pel_window-w.ensures in
     let r = ready s (samples_in s) refl in
-    ap (λ (r : Won). r.best.vector)
-    (c.search_eight-won.ensures ∙ (λ i. eight_won (e i) a.reference.now (t i) a.settings.mode (n i) a.seed)
-    ∙ eight-won (samples_in s) a.reference.now (target_in s) (window a.settings) a.seed a.settings.mode r refl (window_small s)
-    (seed_taken s))
+    c.search_eight.ensures ∙ (λ i. eight_won (e i) a.reference.now (t i) a.settings.mode (n i) a.seed)
+    ∙ eight-won (samples_in s) a.reference.now (target_in s) (window a.settings) a.seed a.settings.mode r refl (window_small s) (seed_taken s)
+
+found : (c : After-unwrap-winner) → c.unwrap-winner.result.vector ≡ winner (start_at (goal.at.After-unwrap-winner c).After-eight_samples)
+unfolding eight_best
+found c =
+    let k = told (goal.at.After-unwrap-winner c).After-search_eight in
+    let e : c.unwrap-winner.result ≡ best_in (goal.at.After-unwrap-winner c).Start = cc (k, c.unwrap-winner.ensures) in
+    ap (λ (r : Scored). r.vector) e
+
+pub unwrap-winner-requires : goal.unwrap-winner-requires
+unwrap-winner-requires c = subst IsOk (sym (told (goal.at.unwrap-winner-requires c).After-search_eight)) refl
 
 pub eight_target-part-requires : goal.eight_target-part-requires
 eight_target-part-requires c =
@@ -94,7 +106,7 @@ refine_subpel-requires c =
     let t = c.eight_target-part.ensures in (
       subst (Ready (local k) c.args.reference.now) (sym t) (ready s (local k) c.eight_samples.ensures),
       c.requires.settings,
-      subst (Within 4096) (sym (found (goal.at.refine_subpel-requires c).After-search_eight-won)) (winner_small s),
+      subst (Within 4096) (sym (found (goal.at.refine_subpel-requires c).After-unwrap-winner)) (winner_small s),
     )
 
 pub returns : goal.returns
@@ -102,7 +114,7 @@ returns c =
     let a = c.args in
     let e = c.eight_samples.ensures in
     let t = c.eight_target-part.ensures in
-    let d = found (goal.at.returns c).After-search_eight-won in
+    let d = found (goal.at.returns c).After-unwrap-winner in
     c.refine_subpel.ensures
     ∙ (λ i. refined (vector_sum a.settings (block_of (e i) a.reference.now (t i))) a.settings (d i))
     ∙ searched a.settings a.seed (block_at (goal.at.returns c).Start)

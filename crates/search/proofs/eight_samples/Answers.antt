@@ -1,7 +1,9 @@
 -- `search::eight_samples` meets its contract.
 use Prim.Native.Nat.{◌*◌, ◌/◌, ◌%◌}
 use native.Mathlib.Omega.{arith}
-use mathlib.Core.Path.{◌≡◌, ◌∙◌}
+use mathlib.Core.Path.{◌≡◌, refl, sym, subst, ◌∙◌}
+use Rattle.std.specs.Prelude.{IsOk}
+use Rattle.plane.proofs.Ready.{copy_done}
 use mir.Syntax.{w32}
 use mir.Val.{to_z}
 use mir.ValLaws.{to_z_pos}
@@ -17,6 +19,10 @@ start_is s =
     let x = to_z_pos w32 (8 * (s.args.n % 2)) (omega arith) in
     let y = to_z_pos w32 (8 * (s.args.n / 2)) (omega (arith, s.requires.1)) in
     λ i. record { x = x i; y = y i }
+
+pub unwrap-requires : goal.unwrap-requires
+unwrap-requires c =
+    subst IsOk (sym (c.copy_block.ensures.value ∙ copy_done whole _ 8 8 _ (whole_usable _ c.requires.0) c.requires.2)) refl
 
 pub returns : goal.returns
 returns c =

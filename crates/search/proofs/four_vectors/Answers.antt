@@ -3,6 +3,7 @@ use Prim.Native.Nat.{ℕ, ◌<◌}
 use native.Mathlib.Omega.{arith}
 use mathlib.Core.List.{List}
 use mathlib.Core.Path.{◌≡◌, refl, sym, subst, ◌∙◌}
+use Rattle.std.specs.Prelude.{IsOk}
 use Rattle.plane.specs.Corner.{corner_of}
 use Rattle.plane.specs.Plane.{plane_of}
 use Rattle.plane.specs.Source.{source_luma}
@@ -13,7 +14,7 @@ use Rattle.full_search.specs.Block.{eight, block_of}
 use Rattle.search.specs.Estimate.{block_vector}
 use Rattle.search.specs.Told.{EightSought, macroblock_target}
 use Rattle.search.proofs.Eights.{four_are}
-use Rattle.search.proofs.Judge.{column_most, row_most}
+use Rattle.search.proofs.Judge.{block_done, column_most, row_most}
 use Rattle.search.proofs.SourceBlock.{samples_of, luma_placed, luma_searched}
 use Rattle.search.proofs.four_vectors.Goals.{After-luma_block, After-macroblock_target-target, Start}
 use Rattle.search.proofs.four_vectors.Goals as goal
@@ -74,6 +75,9 @@ answered c n r e =
     let l = copied_is (luma_at c) in
     let t = c.macroblock_target-target.ensures in
     e ∙ (λ i. vector_of s n (l i) (t i))
+
+pub unwrap-requires : goal.unwrap-requires
+unwrap-requires c = subst IsOk (sym (c.luma_block.ensures.value ∙ block_done _ _ _ c.requires.0.luma)) refl
 
 pub macroblock_target-target-requires : goal.macroblock_target-target-requires
 macroblock_target-target-requires c =

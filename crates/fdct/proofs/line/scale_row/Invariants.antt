@@ -1,12 +1,12 @@
 -- `fdct::line::scale_row` meets its contract.
-use Prim.Native.Nat.{◌≤◌}
+use Prim.Native.Nat.{ℕ, ◌<◌}
 use mathlib.Core.Path.{◌≡◌}
-use lib.Ieee.{binary64, mul}
+use lib.Ieee.{Float, binary64, mul}
 use lib.ListN.{length}
-use Rattle.basis.proofs.Lists.{filled}
 use Rattle.fdct.specs.Told.{entries}
 use Rattle.fdct.proofs.line.scale_row.Given as goal
 
 abbrev pub invariant-loop-j : goal.invariant-loop-j
-invariant-loop-j l =
-    (l.j ≤ 8) × (length l.out ≡ 8) × (length l.initial.out ≡ 8) × (l.out ≡ filled l.j (λ j. mul binary64 l.scale (entries l.sums j)) l.initial.out)
+invariant-loop-j g l =
+    (length l.out ≡ 8)
+    × ((k : ℕ) → k < l.j → (s : Float) × goal.F-post g l.scale k s × (entries l.out k ≡ mul binary64 s (entries l.sums k)))

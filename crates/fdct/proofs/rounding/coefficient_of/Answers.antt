@@ -1,32 +1,28 @@
 -- `fdct::rounding::coefficient_of` meets its contract: `proofs/Limits.antt` has what the clamped double has.
 use mathlib.Core.Path.{◌≡◌, sym, ap, ◌∙◌, subst}
 use mathlib.Core.Bool.{cond}
-use Prim.Native.Nat.{◌^◌, ◌<◌}
-use native.Mathlib.Nat.{le_trans, le_of_eq}
-use lib.Dec.{T, lit≤}
-use lib.IntN.{ℤ, pos, nat_abs, ◌-ℤ◌}
+use lib.Dec.{T}
+use lib.IntN.{pos, ◌-ℤ◌}
+use native.Mathlib.Omega.{arith}
+use Rattle.std.proofs.lemmas.Int.{ints}
+use Rattle.basis.proofs.Case.{then, else}
 use lib.Ieee.{Float, of_bits, lt, le}
-use lib.Signed.{mag}
 use mir.Syntax.{w32}
 use mir.Val.{to_z, of_z}
-use Rattle.basis.proofs.Signed.{of_bits_lem}
 use Rattle.fdct.specs.Double.{zero_double}
-use Rattle.fdct.specs.Rounding.{rounded_size}
-use Rattle.fdct.specs.Told.{sized, known, not_above, not_below}
+use Rattle.fdct.specs.Rounding.{rounded_size, coefficient_of}
+use Rattle.fdct.specs.Told.{known, not_above, not_below}
 use Rattle.fdct.proofs.Limits.{Serves, serves, signed_size}
 use Rattle.fdct.proofs.Signs.{top, sized_up, sized_magnitude}
+use Rattle.fdct.proofs.rounding.coefficient_of.Goals.{After-nearest_up-n}
 use Rattle.fdct.proofs.rounding.coefficient_of.Goals as goal
 
 -- the clamped double, from what the three calls that clamp it say
 clamped : (x a b z : Float) → a ≡ known x → b ≡ not_above a → z ≡ not_below b → Serves x z
 clamped x a b z k h l = subst (Serves x) (sym (l ∙ ap not_below (h ∙ ap not_above k))) (serves x)
 
--- its size, to the nearest
-nearest : (z a : Float) (n : ℤ) → mag n < 2 ^ 31 → n ≡ pos (rounded_size a) → a ≡ sized z → to_z w32 (of_z w32 n) ≡ pos (rounded_size z)
-nearest z a n ok r e = of_bits_lem n ok ∙ r ∙ ap pos (ap rounded_size e ∙ sized_magnitude z)
-
-pub nearest_up-requires : goal.nearest_up-requires
-nearest_up-requires c =
+pub nearest_up-n-requires : goal.nearest_up-n-requires
+nearest_up-n-requires c =
     let z = c.at_least-z.result in
     let s = clamped _ _ _ z c.known.ensures c.at_most.ensures c.at_least-z.ensures in
     let e = c.size.ensures in record {
@@ -34,18 +30,28 @@ nearest_up-requires c =
       below_4096 = subst T (sym (ap (λ (a : Float). lt a top) e ∙ s.below_top)) tt;
     }
 
-pub with_sign-requires : goal.with_sign-requires
-with_sign-requires c =
-    let s = clamped _ _ _ _ c.known.ensures c.at_most.ensures c.at_least-z.ensures in
-    let n = nearest _ _ c.nearest_up.result c.nearest_up.type_inv c.nearest_up.ensures c.size.ensures in
-    le_trans (le_of_eq (ap nat_abs n)) (le_trans s.most (lit≤ tt))
+-- the size to the nearest, with its sign
+size_is : (c : After-nearest_up-n) → c.nearest_up-n.result ≡ pos (rounded_size c.at_least-z.result)
+size_is c = c.nearest_up-n.ensures ∙ ap pos (ap rounded_size c.size.ensures ∙ sized_magnitude c.at_least-z.result)
 
-pub returns : goal.returns
+signed_is : (c : After-nearest_up-n) → let z = c.at_least-z.result in
+    cond (lt z zero_double) (pos 0 -ℤ pos (rounded_size z)) (pos (rounded_size z)) ≡ coefficient_of c.args.x
+signed_is c = signed_size _ _ (clamped _ _ _ _ c.known.ensures c.at_most.ensures c.at_least-z.ensures)
+
+pub returns-then-z : goal.returns-then-z
 unfolding of_bits
-returns c =
-    let z = c.at_least-z.result in
-    let called = c.nearest_up in
-    of_bits_lem c.with_sign.result c.with_sign.type_inv
-    ∙ c.with_sign.ensures
-    ∙ ap (λ (n : ℤ). cond (lt z zero_double) (pos 0 -ℤ n) n) (nearest z _ called.result called.type_inv called.ensures c.size.ensures)
-    ∙ signed_size _ z (clamped _ _ _ z c.known.ensures c.at_most.ensures c.at_least-z.ensures)
+returns-then-z c =
+    let at = (goal.at.returns-then-z c).After-nearest_up-n in
+    let e = size_is at in
+    (let k : to_z w32 (of_z w32 (pos 0 -ℤ to_z w32 (of_z w32 c.nearest_up-n.result))) ≡ pos 0 -ℤ pos (rounded_size c.at_least-z.result) = omega (arith, ints) in k)
+    ∙ sym (then _ _ _ c.if-z.true)
+    ∙ signed_is at
+
+pub returns-else-z : goal.returns-else-z
+unfolding of_bits
+returns-else-z c =
+    let at = (goal.at.returns-else-z c).After-nearest_up-n in
+    let e = size_is at in
+    (let k : to_z w32 (of_z w32 c.nearest_up-n.result) ≡ pos (rounded_size c.at_least-z.result) = omega (arith, ints) in k)
+    ∙ sym (else _ _ _ c.if-z.false)
+    ∙ signed_is at

@@ -5,7 +5,7 @@ use native.Mathlib.Omega.{arith}
 use mathlib.Core.Path.{◌≡◌, refl, sym, subst}
 use lib.ListN.{length}
 use Rattle.plane.specs.declared.Point.{Point}
-use Rattle.plane.specs.Plane.{Plane, plane_of, copied_block}
+use Rattle.plane.specs.Plane.{Plane, plane_of}
 use Rattle.full_search.specs.declared.Lines.{Lines}
 use Rattle.full_search.specs.declared.Row.{Row}
 use Rattle.full_search.specs.Block.{block_in}
@@ -15,16 +15,16 @@ use Rattle.full_search.specs.ToldKept.{kept_of, copied_cost, NoMoreThanZero, row
 use Rattle.full_search.specs.ToldPatch.{RowReady}
 use Rattle.full_search.proofs.Moves.{wider, down_within}
 use Rattle.full_search.proofs.OnPatches.{rows_none, rows_more, rows_all}
-use Rattle.full_search.proofs.Patches.{copy_is, copy_length, patch_room, strip_columns}
+use Rattle.full_search.proofs.Patches.{copy_length, patch_room, strip_columns}
 use Rattle.full_search.proofs.full.band_search.Invariants.{line_of}
-use Rattle.full_search.proofs.full.band_search.Goals.{After-copy_block, In-loop-i, Start}
+use Rattle.full_search.proofs.full.band_search.Goals.{After-copy_from, In-loop-i, Start}
 use Rattle.full_search.proofs.full.band_search.Goals as goal
 
-abbrev start : After-copy_block → Start
-start c = (goal.at.After-copy_block c).Start
+abbrev start : After-copy_from → Start
+start c = (goal.at.After-copy_from c).Start
 
-abbrev copied : In-loop-i → After-copy_block
-copied c = (goal.at.In-loop-i c).After-copy_block
+abbrev copied : In-loop-i → After-copy_from
+copied c = (goal.at.In-loop-i c).After-copy_from
 
 abbrev width_of : Start → ℕ
 width_of s = 16 + s.args.first.step * s.args.first.count
@@ -34,17 +34,6 @@ plane_in s = plane_of s.args.reference.now s.args.target.geometry
 
 abbrev first_place : Start → Point
 first_place s = moved_to s.args.target.corner s.args.first.from
-
--- what the band holds
-held : (c : After-copy_block)
-    → c.copy_block.new.out ≡ copied_block (plane_in (goal.at.After-copy_block c).Start) (first_place (goal.at.After-copy_block c).Start) (width_of (goal.at.After-copy_block c).Start) 28
-held c =
-    let s = (goal.at.After-copy_block c).Start in
-    let a = c.args in
-    let p = c.requires in
-    copy_is a.reference.now a.target.geometry c.moved_to-at.result (first_place s) (width_of s) 28
-    c.copy_block.result a.band.now _ p.ready.reference p.band_fits c.moved_to-at.ensures
-    c.copy_block.ensures.value c.copy_block.ensures.out_after
 
 -- a row's places lie within the band
 room : (c : In-loop-i) (k : ℕ) → k ≤ (start (copied c)).args.first.count
@@ -66,12 +55,8 @@ pub overflow_add-width : goal.overflow_add-width
 overflow_add-width c =
     record { fits = omega (arith, c.requires.run_small) }
 
-pub moved_to-at-requires : goal.moved_to-at-requires
-moved_to-at-requires c =
-    (c.requires.ready.inside, wider (omega arith) c.requires.from_small)
-
-pub copy_block-requires : goal.copy_block-requires
-copy_block-requires c = tt
+pub copy_from-requires : goal.copy_from-requires
+copy_from-requires c = (c.requires.ready.reference, c.requires.ready.inside, wider (omega arith) c.requires.from_small, c.requires.band_fits)
 
 pub loop-i-init : goal.loop-i-init
 loop-i-init c =
@@ -79,28 +64,28 @@ loop-i-init c =
     (omega arith, rows_none 16 a.source.now _ a.first.from (width_of (goal.at.loop-i-init c).Start) 28 zero_discount (line_of a.first) a.best)
 
 pub overflow_mul-i : goal.overflow_mul-i
-overflow_mul-i c = record { fits = omega (arith, c.loop-i-test.true, (start (goal.at.overflow_mul-i c).After-copy_block).requires.few) }
+overflow_mul-i c = record { fits = omega (arith, c.loop-i-test.true, (start (goal.at.overflow_mul-i c).After-copy_from).requires.few) }
 
 pub row_below-row-requires : goal.row_below-row-requires
 row_below-row-requires c =
-    let s = start (goal.at.row_below-row-requires c).After-copy_block in
+    let s = start (goal.at.row_below-row-requires c).After-copy_from in
     (wider (omega arith) s.requires.from_small, omega (arith, c.loop-i-test.true, s.requires.few))
 
 pub overflow_mul-lines : goal.overflow_mul-lines
-overflow_mul-lines c = record { fits = omega (arith, c.loop-i-test.true, (start (goal.at.overflow_mul-lines c).After-copy_block).requires.few) }
+overflow_mul-lines c = record { fits = omega (arith, c.loop-i-test.true, (start (goal.at.overflow_mul-lines c).After-copy_from).requires.few) }
 
 pub overflow_mul-lines-in-loop-i : goal.overflow_mul-lines-in-loop-i
 overflow_mul-lines-in-loop-i c =
-    let s = start (goal.at.overflow_mul-lines-in-loop-i c).After-copy_block in
+    let s = start (goal.at.overflow_mul-lines-in-loop-i c).After-copy_from in
     record { fits = omega (arith, room (goal.at.overflow_mul-lines-in-loop-i c).In-loop-i 0 (omega arith), s.requires.run_small) }
 
 pub sixteen_row-b-requires : goal.sixteen_row-b-requires
 sixteen_row-b-requires c =
-    let s = start (goal.at.sixteen_row-b-requires c).After-copy_block in
+    let s = start (goal.at.sixteen_row-b-requires c).After-copy_from in
     let a = s.args in
     let i = c.loop-i.i in
-    let long = copy_length (plane_in s) (first_place s) (width_of s) 28 _ (held (goal.at.sixteen_row-b-requires c).After-copy_block) in
-    let band = c.copy_block.new.out in
+    let long = copy_length (plane_in s) (first_place s) (width_of s) 28 _ c.copy_from.ensures in
+    let band = c.copy_from.new.out in
     let lines : Lines = record { first = 4 * i * width_of s; stride = width_of s } in
     subst (λ (r : Row). RowReady 16 a.source.now band lines r) (sym c.row_below-row.ensures)
     (record {
@@ -113,14 +98,14 @@ sixteen_row-b-requires c =
 
 pub overflow_step-i : goal.overflow_step-i
 overflow_step-i c =
-    omega (arith, c.loop-i-test.true, (start (goal.at.overflow_step-i c).After-copy_block).requires.few)
+    omega (arith, c.loop-i-test.true, (start (goal.at.overflow_step-i c).After-copy_from).requires.few)
 
 pub loop-i-smaller : goal.loop-i-smaller
 loop-i-smaller c = omega (arith, c.loop-i-test.true)
 
 pub loop-i-preserved : goal.loop-i-preserved
 loop-i-preserved c =
-    let s = start (goal.at.loop-i-preserved c).After-copy_block in
+    let s = start (goal.at.loop-i-preserved c).After-copy_from in
     let a = s.args in
     let i = c.loop-i.i in (
       omega (arith, c.loop-i-test.true),
@@ -139,6 +124,6 @@ returns c =
     let small = subst (λ (n : ℕ). NoMoreThanZero (copied_cost zero_discount (block_in n source (plane_in s) corner)) a.best) c.requires.sixteen c.requires.best_small in
     let all =
     rows_all 16 source _ a.first.from (width_of s) 28 zero_discount (line_of a.first) a.best a.n l.i l.b
-    (omega (arith, c.loop-i-test.false, l.invariant.0)) l.invariant.1 (plane_in s) corner (held (goal.at.returns c).After-copy_block) small in
+    (omega (arith, c.loop-i-test.false, l.invariant.0)) l.invariant.1 (plane_in s) corner c.copy_from.ensures small in
     subst (λ (n : ℕ). l.b ≡ kept_of (copied_cost zero_discount (block_in n source (plane_in s) corner)) a.best (rows_below a.first a.n))
     (sym c.requires.sixteen) all

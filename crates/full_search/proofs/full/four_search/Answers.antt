@@ -35,14 +35,14 @@ sum_in s = let a = s.args in copied_sum (block_of a.source.now a.reference.now a
 pub zero_start-zero-requires : goal.zero_start-zero-requires
 zero_start-zero-requires c = c.requires.ready
 
-pub seed_from-from-requires : goal.seed_from-from-requires
-seed_from-from-requires c = c.requires.seed_small
+pub seed_from-requires : goal.seed_from-requires
+seed_from-requires c = c.requires.seed_small
 
 pub square_search-requires : goal.square_search-requires
 square_search-requires c =
     record {
       ready = c.requires.ready;
-      from_small = subst (Within 4000) (sym c.seed_from-from.ensures) (from_within c.args.mode c.args.seed c.requires.seed_small);
+      from_small = subst (Within 4000) (sym c.seed_from.ensures) (from_within c.args.mode c.args.seed c.requires.seed_small);
       some = omega arith;
       few = omega arith;
       patch_fits = subst (λ (n : ℕ). 144 ≡ (n + 5 - 1) * (n + 5 - 1)) (sym c.requires.eight) refl;
@@ -56,6 +56,6 @@ returns c =
     let sum = sum_in (goal.at.returns c).Start in
     c.square_search.ensures
     ∙ ap₂ (λ (b : Scored) (f : MotionVector). kept_of (discounted 0 sum) b (square_of (record { from = f; count = 5; outer = w })))
-    c.zero_start-zero.ensures c.seed_from-from.ensures
+    c.zero_start-zero.ensures c.seed_from.ensures
     ∙ ap (λ (cost : MotionVector → ℕ). found cost (square_of (seed_square w c.args.mode c.args.seed))) (no_discount sum)
     ∙ four_is sum w c.args.mode c.args.seed

@@ -17,6 +17,6 @@ returns c =
     record {
       start =
           λ p corner e.
-          ap₂ scored c.zero_vector-zero.ensures
-          (c.less.ensures ∙ ap (λ (n : ℕ). n - zero_discount) (c.block-sum.ensures ∙ middle_sum a.source.now a.patch.now p corner e));
+          ap₂ scored c.zero_vector.ensures
+          (c.saturating_sub.ensures ∙ ap (λ (n : ℕ). n - zero_discount) (c.block-sum.ensures ∙ middle_sum a.source.now a.patch.now p corner e));
     }

@@ -1,5 +1,5 @@
 -- `full_search::full::seed_from` meets its contract.
-use Prim.Native.Nat.{ℕ, ◌≤◌}
+use Prim.Native.Nat.{◌≤◌}
 use native.Mathlib.Omega.{arith}
 use mathlib.Core.Path.{◌≡◌, ap, ◌∙◌}
 use lib.IntN.{ℤ, pos, ◌-ℤ◌}
@@ -7,43 +7,29 @@ use lib.Signed.{quot_z}
 use mir.Syntax.{w32}
 use mir.Val.{to_z, of_z}
 use mir.Facts.{to_z-of_z}
-use borrow.Author.Rules.{sfits_of}
 use Rattle.basis.specs.Parts.{above, below}
-use Rattle.basis.proofs.Signed.{of_bits_lem}
+use Rattle.basis.proofs.Parts.{above-sub, below_sub, parts_fit}
 use Rattle.prediction.specs.Luma.{units_per_pel}
-use Rattle.full_search.proofs.Moves.{quotient_small, read_small}
-use Rattle.full_search.proofs.full.seed_from.Goals.{After-divided, After-divided-2}
+use Rattle.full_search.proofs.Moves.{quotient_small}
 use Rattle.full_search.proofs.full.seed_from.Goals as goal
 
--- a component of a seed in range, divided, is small
-small : (z : ℤ) (u : ℕ) {v : ℤ} → v ≡ quot_z z (pos u) → above z ≤ 2048 → below z ≤ 2048 → (above v ≤ 4096) × (below v ≤ 4096) × (2 ≤ 4096)
-small z u e p q =
-    let k = quotient_small z u 2048 p q in
-    let v = read_small 2048 4096 (quot_z z (pos u)) (omega arith) e k.0 k.1 in
-    (v.0, v.1, omega arith)
+read : (z : ℤ) → above z ≤ 2050 → below z ≤ 2050 → to_z w32 (of_z w32 z) ≡ z
+read z h k = to_z-of_z {w = w32} (parts_fit z (omega arith) (omega arith))
 
-across : (c : After-divided)
-    → to_z w32 (of_z w32 c.divided.result) ≡ quot_z c.args.seed.x (pos (units_per_pel c.args.mode))
-across c =
-    to_z-of_z (sfits_of {w = w32} c.divided.type_inv) ∙ c.divided.ensures
-    ∙ ap (λ (z : ℤ). quot_z z (pos (units_per_pel c.args.mode))) (of_bits_lem c.args.seed.x c.struct_told-1.given.0.1)
-
-along : (c : After-divided-2)
-    → to_z w32 (of_z w32 c.divided-2.result) ≡ quot_z c.args.seed.y (pos (units_per_pel c.args.mode))
-along c =
-    to_z-of_z (sfits_of {w = w32} c.divided-2.type_inv) ∙ c.divided-2.ensures
-    ∙ ap (λ (z : ℤ). quot_z z (pos (units_per_pel c.args.mode))) (of_bits_lem c.args.seed.y c.struct_told-2-1.given.1.0.1)
-
-pub lowered-requires : goal.lowered-requires
-lowered-requires c =
-    small c.args.seed.x _ (across (goal.at.lowered-requires c).After-divided) c.requires.x_above c.requires.x_below
-
-pub lowered-requires-2 : goal.lowered-requires-2
-lowered-requires-2 c =
-    small c.args.seed.y _ (along (goal.at.lowered-requires-2 c).After-divided-2) c.requires.y_above c.requires.y_below
+-- two less, as the machine takes it off
+two_less : (z q : ℤ) → z ≡ q → above q ≤ 2048 → below q ≤ 2048 → to_z w32 (of_z w32 (to_z w32 (of_z w32 z) -ℤ pos 2)) ≡ q -ℤ pos 2
+two_less z q e h k =
+    ap (λ (v : ℤ). to_z w32 (of_z w32 (v -ℤ pos 2))) (ap (λ (v : ℤ). to_z w32 (of_z w32 v)) e ∙ read q (omega arith) (omega arith))
+    ∙ read (q -ℤ pos 2) (omega (arith, above-sub q (pos 2))) (omega (arith, below_sub q (pos 2)))
 
 pub returns : goal.returns
 returns c =
-    let x = to_z-of_z (sfits_of {w = w32} c.lowered.type_inv) ∙ c.lowered.ensures ∙ ap (λ (z : ℤ). z -ℤ pos 2) (across (goal.at.returns c).After-divided) in
-    let y = to_z-of_z (sfits_of {w = w32} c.lowered-2.type_inv) ∙ c.lowered-2.ensures ∙ ap (λ (z : ℤ). z -ℤ pos 2) (along (goal.at.returns c).After-divided-2) in
+    let s = c.args.seed in
+    let r = c.requires in
+    let u = units_per_pel c.args.mode in
+    let of = λ (z : ℤ). quot_z z (pos u) in
+    let p = quotient_small s.x u 2048 r.x_above r.x_below in
+    let q = quotient_small s.y u 2048 r.y_above r.y_below in
+    let x = two_less c.divided.result (of s.x) (c.divided.ensures ∙ ap of (read s.x (omega arith) (omega arith))) p.0 p.1 in
+    let y = two_less c.divided-2.result (of s.y) (c.divided-2.ensures ∙ ap of (read s.y (omega arith) (omega arith))) q.0 q.1 in
     λ i. record { x = x i; y = y i }

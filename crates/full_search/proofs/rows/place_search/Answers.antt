@@ -34,10 +34,10 @@ block-sum-requires c =
 pub returns-then-far-eq0 : goal.returns-then-far-eq0
 returns-then-far-eq0 c =
     let s = c.args in
-    considered s.side s.source.now s.patch.now s.at s.discount s.d c.less.result s.best c.consider.result
+    considered s.side s.source.now s.patch.now s.at s.discount s.d c.saturating_sub.result s.best c.consider.result
     c.consider.ensures (listed_here (goal.at.returns-then-far-eq0 c).Else-row-far)
-    (zero_here s.side s.source.now s.patch.now s.at s.discount s.d c.block-sum.result c.block-sum.ensures c.less.result
-    c.less.ensures (sym c.distance-far.ensures ∙ c.if-far-eq0.true))
+    (zero_here s.side s.source.now s.patch.now s.at s.discount s.d c.block-sum.result c.block-sum.ensures c.saturating_sub.result
+    c.saturating_sub.ensures (sym c.distance-far.ensures ∙ c.if-far-eq0.true))
 
 pub returns : goal.returns
 returns c =

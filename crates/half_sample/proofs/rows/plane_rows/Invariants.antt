@@ -1,9 +1,5 @@
--- `half_sample::rows::plane_rows` meets its contract.
-use Prim.Native.Nat.{ℕ, ◌≤◌}
-use mathlib.Core.List.{List}
-use mathlib.Core.Path.{◌≡◌}
-use lib.IntN.{ℤ, pos}
-use lib.ListN.{length}
+-- The block as far as the loop has come.
+use Rattle.std.proofs.Common.{ℕ, ◌≡◌, List, ℤ, pos}
 use Rattle.basis.specs.Lists.{tabulate}
 use Rattle.basis.proofs.Lists.{laid}
 use Rattle.plane.specs.Plane.{Plane, geometry_of, plane_of}
@@ -17,4 +13,4 @@ block_row p column y halves w j = tabulate w (λ i. sample_by p (pos column) y h
 
 abbrev pub invariant-loop-j : goal.invariant-loop-j
 invariant-loop-j l =
-    (l.j ≤ l.h) × (length l.out ≡ length l.initial.out) × (l.out ≡ laid l.w (block_row (plane_of l.samples (geometry_of l.width l.height l.stride)) l.column l.at.y l.halves l.w) l.j l.initial.out)
+    l.out ≡ laid l.w (block_row (plane_of l.samples (geometry_of l.width l.height l.stride)) l.column l.at.y l.halves l.w) l.j l.initial.out

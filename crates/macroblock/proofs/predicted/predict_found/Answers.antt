@@ -1,6 +1,6 @@
 -- `macroblock::predicted::predict_found` meets its contract.
 use mathlib.Core.Path.{ap₂, ◌∙◌}
-use Rattle.refusal.specs.declared.Reply.{Reply}
+use Rattle.refusal.specs.Reply.{Reply}
 use Rattle.refusal.proofs.Replies.{left}
 use Rattle.plane.specs.Samples.{Samples, samples}
 use Rattle.prediction.specs.declared.BVopSampleMode.{BVopSampleMode}

@@ -7,7 +7,8 @@ use lib.ListN.{length}
 use mir.Val.{to_z, of_z}
 use mir.Syntax.{w32}
 use Rattle.basis.proofs.Lists.{tabulate_cong}
-use Rattle.basis.proofs.Signed.{of_bits_lem}
+use mir.ValLaws.{to_z-of_z}
+use Rattle.std.proofs.Common.{rules}
 use Rattle.plane.specs.Plane.{Plane, plane_of, clamp_to, copied, sample_at}
 use Rattle.plane.proofs.Inside.{row_in_plane}
 use Rattle.plane.proofs.Rows.{in_row}
@@ -22,19 +23,10 @@ module _ (c : After-clamp_coordinate) where
   nearest : c.clamp_coordinate.result ≡ clamp_to (plane (goal.at.After-clamp_coordinate c).Start).height (c.args.at.y +ℤ pos c.args.j)
   nearest =
       c.clamp_coordinate.ensures
-      ∙ ap (λ (z : ℤ). clamp_to (plane (goal.at.After-clamp_coordinate c).Start).height (z +ℤ pos c.args.j)) (of_bits_lem c.args.at.y c.struct_told-1.given.1.0.1)
+      ∙ ap (λ (z : ℤ). clamp_to (plane (goal.at.After-clamp_coordinate c).Start).height (z +ℤ pos c.args.j)) (to_z-of_z w32 c.args.at.y (search rules))
 
   inside : c.clamp_coordinate.result * (plane (goal.at.After-clamp_coordinate c).Start).stride + (plane (goal.at.After-clamp_coordinate c).Start).width ≤ length (plane (goal.at.After-clamp_coordinate c).Start).samples
   inside = row_in_plane (plane (goal.at.After-clamp_coordinate c).Start) c.clamp_coordinate.result c.requires (omega (arith, c.clamp_coordinate.ensures))
-
-pub overflow_mul-start : goal.overflow_mul-start
-overflow_mul-start c = omega (arith, inside (goal.at.overflow_mul-start c).After-clamp_coordinate, c.well_formed)
-
-pub overflow_add-end : goal.overflow_add-end
-overflow_add-end c = omega (arith, inside (goal.at.overflow_add-end c).After-clamp_coordinate, c.well_formed)
-
-pub slice_bounds-copy_row-end : goal.slice_bounds-copy_row-end
-slice_bounds-copy_row-end c = omega (arith, inside (goal.at.slice_bounds-copy_row-end c).After-clamp_coordinate)
 
 pub returns : goal.returns
 returns c =
@@ -45,4 +37,4 @@ returns c =
     c.copy_row.ensures
     ∙ tabulate_cong (length a.out.now) _ (λ i. copied (plane s) a.at.x a.at.y i a.j)
     (λ i h. in_row (plane s) (to_z w32 (of_z w32 a.at.x)) (a.at.y +ℤ pos a.j) r i c.requires.wide (inside k) (nearest k)
-    ∙ ap (λ (z : ℤ). sample_at (plane s) (z +ℤ pos i) (a.at.y +ℤ pos a.j)) (of_bits_lem a.at.x c.struct_told-2-1.given.0.1))
+    ∙ ap (λ (z : ℤ). sample_at (plane s) (z +ℤ pos i) (a.at.y +ℤ pos a.j)) (to_z-of_z w32 a.at.x (search rules)))

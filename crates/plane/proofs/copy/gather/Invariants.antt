@@ -1,5 +1,4 @@
 -- `plane::copy::gather` meets its contract.
-use Prim.Native.Nat.{◌≤◌}
 use mathlib.Core.Path.{◌≡◌}
 use lib.ListN.{length}
 use Rattle.basis.proofs.Lists.{filled}
@@ -8,4 +7,4 @@ use Rattle.plane.proofs.copy.gather.Given as goal
 
 abbrev pub invariant-loop-i : goal.invariant-loop-i
 invariant-loop-i l =
-    (l.i ≤ l.i-end) × (l.i-end ≡ length l.initial.out) × (length l.out ≡ length l.initial.out) × (l.out ≡ filled l.i (gathered l.row l.columns) l.initial.out)
+    (length l.out ≡ length l.initial.out) × (l.out ≡ filled l.i (gathered l.row l.columns) l.initial.out)

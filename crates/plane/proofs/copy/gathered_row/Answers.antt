@@ -5,7 +5,9 @@ use mathlib.Core.Path.{◌≡◌, sym, ap, ◌∙◌}
 use lib.IntN.{ℤ, pos, ◌+ℤ◌}
 use lib.ListN.{length, get_or, take, drop}
 use Rattle.basis.proofs.Lists.{tabulate_cong}
-use Rattle.basis.proofs.Signed.{of_bits_lem}
+use mir.Syntax.{w32}
+use mir.ValLaws.{to_z-of_z}
+use Rattle.std.proofs.Common.{rules}
 use Rattle.basis.proofs.Slices.{part_length}
 use Rattle.plane.specs.Plane.{Plane, plane_of, clamp_to, copied}
 use Rattle.plane.proofs.Inside.{row_in_plane}
@@ -21,7 +23,7 @@ module _ (c : After-clamp_coordinate) where
   nearest : c.clamp_coordinate.result ≡ clamp_to (plane (goal.at.After-clamp_coordinate c).Start).height (c.args.at.y +ℤ pos c.args.j)
   nearest =
       c.clamp_coordinate.ensures
-      ∙ ap (λ (z : ℤ). clamp_to (plane (goal.at.After-clamp_coordinate c).Start).height (z +ℤ pos c.args.j)) (of_bits_lem c.args.at.y c.struct_told-1.given.1.0.1)
+      ∙ ap (λ (z : ℤ). clamp_to (plane (goal.at.After-clamp_coordinate c).Start).height (z +ℤ pos c.args.j)) (to_z-of_z w32 c.args.at.y (search rules))
 
   inside : c.clamp_coordinate.result * (plane (goal.at.After-clamp_coordinate c).Start).stride + (plane (goal.at.After-clamp_coordinate c).Start).width ≤ length (plane (goal.at.After-clamp_coordinate c).Start).samples
   inside = row_in_plane (plane (goal.at.After-clamp_coordinate c).Start) c.clamp_coordinate.result c.requires.0 (omega (arith, c.clamp_coordinate.ensures))
@@ -29,15 +31,6 @@ module _ (c : After-clamp_coordinate) where
   row_length : let k = c.clamp_coordinate.result * (plane (goal.at.After-clamp_coordinate c).Start).stride in
       length (take (k + (plane (goal.at.After-clamp_coordinate c).Start).width - k) (drop k (plane (goal.at.After-clamp_coordinate c).Start).samples)) ≡ (plane (goal.at.After-clamp_coordinate c).Start).width
   row_length = part_length (plane (goal.at.After-clamp_coordinate c).Start).samples (c.clamp_coordinate.result * (plane (goal.at.After-clamp_coordinate c).Start).stride) (plane (goal.at.After-clamp_coordinate c).Start).width inside
-
-pub overflow_mul-start : goal.overflow_mul-start
-overflow_mul-start c = omega (arith, inside (goal.at.overflow_mul-start c).After-clamp_coordinate, c.well_formed)
-
-pub overflow_add-end : goal.overflow_add-end
-overflow_add-end c = omega (arith, inside (goal.at.overflow_add-end c).After-clamp_coordinate, c.well_formed)
-
-pub slice_bounds-gather-end : goal.slice_bounds-gather-end
-slice_bounds-gather-end c = omega (arith, inside (goal.at.slice_bounds-gather-end c).After-clamp_coordinate)
 
 pub gather-requires : goal.gather-requires
 gather-requires c =

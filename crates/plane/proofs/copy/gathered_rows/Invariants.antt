@@ -1,5 +1,5 @@
 -- `plane::copy::gathered_rows` meets its contract.
-use Prim.Native.Nat.{ℕ, ◌≤◌}
+use Prim.Native.Nat.{ℕ}
 use mathlib.Core.Path.{◌≡◌}
 use lib.ListN.{length}
 use Rattle.basis.specs.Lists.{tabulate}
@@ -16,4 +16,4 @@ block_row s g at w j = tabulate w (λ i. copied (plane_of s g) at.x at.y i j)
 
 abbrev pub invariant-loop-j : goal.invariant-loop-j
 invariant-loop-j l =
-    (l.j ≤ l.h) × (length l.out ≡ length l.initial.out) × (l.out ≡ laid (length l.columns) (block_row l.samples l.geometry l.at (length l.columns)) l.j l.initial.out)
+    (length l.out ≡ length l.initial.out) × (l.out ≡ laid (length l.columns) (block_row l.samples l.geometry l.at (length l.columns)) l.j l.initial.out)

@@ -1,5 +1,4 @@
 -- `plane::copy::set_columns` meets its contract.
-use Prim.Native.Nat.{◌≤◌}
 use mathlib.Core.Path.{◌≡◌}
 use lib.ListN.{length}
 use Rattle.basis.proofs.Lists.{filled}
@@ -8,4 +7,4 @@ use Rattle.plane.proofs.copy.set_columns.Given as goal
 
 abbrev pub invariant-loop-i : goal.invariant-loop-i
 invariant-loop-i l =
-    (l.i ≤ l.i-end) × (l.i-end ≡ length l.initial.columns) × (length l.columns ≡ length l.initial.columns) × (l.columns ≡ filled l.i (column_at l.width l.x) l.initial.columns)
+    (length l.columns ≡ length l.initial.columns) × (l.columns ≡ filled l.i (column_at l.width l.x) l.initial.columns)

@@ -5,7 +5,9 @@ use mathlib.Core.Path.{◌≡◌, sym, ap, ◌∙◌}
 use lib.IntN.{ℤ, pos, ◌+ℤ◌}
 use lib.ListN.{length, take, drop}
 use Rattle.basis.proofs.Lists.{tabulate_cong, tabulate_same}
-use Rattle.basis.proofs.Signed.{of_bits_lem}
+use mir.Syntax.{w32}
+use mir.ValLaws.{to_z-of_z}
+use Rattle.std.proofs.Common.{rules}
 use Rattle.basis.proofs.Slices.{part_length}
 use Rattle.plane.specs.Plane.{Plane, plane_of, clamp_to, copied}
 use Rattle.plane.proofs.Rows.{inside_row, row_end}
@@ -20,24 +22,12 @@ module _ (c : After-clamp_coordinate) where
   nearest : c.clamp_coordinate.result ≡ clamp_to (plane (goal.at.After-clamp_coordinate c).Start).height (c.args.at.y +ℤ pos c.args.j)
   nearest =
       c.clamp_coordinate.ensures
-      ∙ ap (λ (z : ℤ). clamp_to (plane (goal.at.After-clamp_coordinate c).Start).height (z +ℤ pos c.args.j)) (of_bits_lem c.args.at.y c.struct_told-1.given.1.0.1)
+      ∙ ap (λ (z : ℤ). clamp_to (plane (goal.at.After-clamp_coordinate c).Start).height (z +ℤ pos c.args.j)) (to_z-of_z w32 c.args.at.y (search rules))
 
   inside : c.clamp_coordinate.result * (plane (goal.at.After-clamp_coordinate c).Start).stride + c.args.column + length c.args.out.now ≤ length (plane (goal.at.After-clamp_coordinate c).Start).samples
   inside =
       row_end (plane (goal.at.After-clamp_coordinate c).Start) c.args.column c.clamp_coordinate.result (length c.args.out.now) c.requires.0
       (omega (arith, c.clamp_coordinate.ensures)) c.requires.1
-
-pub overflow_mul-start : goal.overflow_mul-start
-overflow_mul-start c = omega (arith, inside (goal.at.overflow_mul-start c).After-clamp_coordinate, c.well_formed)
-
-pub overflow_add-start : goal.overflow_add-start
-overflow_add-start c = omega (arith, inside (goal.at.overflow_add-start c).After-clamp_coordinate, c.well_formed)
-
-pub overflow_add-end : goal.overflow_add-end
-overflow_add-end c = omega (arith, inside (goal.at.overflow_add-end c).After-clamp_coordinate, c.well_formed)
-
-pub slice_bounds-copy_straight-end : goal.slice_bounds-copy_straight-end
-slice_bounds-copy_straight-end c = omega (arith, inside (goal.at.slice_bounds-copy_straight-end c).After-clamp_coordinate)
 
 pub returns : goal.returns
 returns c =

@@ -4,47 +4,23 @@ use native.Mathlib.Omega.{arith}
 use mathlib.Core.Path.{refl, sym, ap, ◌∙◌}
 use lib.ListN.{length-take, length-drop}
 use Rattle.basis.proofs.Bounds.{row_before}
-use Rattle.basis.proofs.Lists.{length-tabulate, laid_none, laid_put, laid_end}
+use Rattle.basis.proofs.Lists.{length-tabulate, laid_none, laid_put}
 use Rattle.plane.proofs.copy.straight_rows.Invariants.{block_row}
 use Rattle.plane.proofs.copy.straight_rows.Goals.{In-loop-j}
 use Rattle.plane.proofs.copy.straight_rows.Goals as goal
 
 pub loop-j-init : goal.loop-j-init
-loop-j-init c = (omega arith, refl, sym (laid_none _ _ (λ j. length-tabulate _ _) _))
+loop-j-init c = (refl, sym (laid_none _ _ (λ j. length-tabulate _ _) _))
 
 -- row j of the block lies within it
 inside : (c : In-loop-j) → let a = c.args in c.loop-j.j * a.w + a.w ≤ a.h * a.w
 inside c = row_before c.args.w c.loop-j-test.true
 
-pub overflow_mul-from : goal.overflow_mul-from
-overflow_mul-from c = omega (arith, inside (goal.at.overflow_mul-from c).In-loop-j)
-
-pub overflow_add-to : goal.overflow_add-to
-overflow_add-to c = omega (arith, inside (goal.at.overflow_add-to c).In-loop-j)
-
-pub slice_bounds-straight_row-count : goal.slice_bounds-straight_row-count
-slice_bounds-straight_row-count c = omega (arith, inside (goal.at.slice_bounds-straight_row-count c).In-loop-j)
-
-pub slice_bounds-straight_row-start : goal.slice_bounds-straight_row-start
-slice_bounds-straight_row-start c = omega (arith, inside (goal.at.slice_bounds-straight_row-start c).In-loop-j)
-
-pub slice_bounds-straight_row-end : goal.slice_bounds-straight_row-end
-slice_bounds-straight_row-end c = omega (arith, inside (goal.at.slice_bounds-straight_row-end c).In-loop-j)
-
-pub straight_row-requires : goal.straight_row-requires
-straight_row-requires c =
-    let p = c.requires in
-    (p.0, simp (length-take, length-drop) (omega (arith, p.1, inside (goal.at.straight_row-requires c).In-loop-j)))
-
 pub loop-j-preserved : goal.loop-j-preserved
 loop-j-preserved c = (
   omega arith,
-  omega arith,
-  laid_put _ _ (λ j. length-tabulate _ _) c.loop-j.j c.args.out.now c.loop-j.out _ c.loop-j.invariant.2
+  laid_put _ _ (λ j. length-tabulate _ _) c.loop-j.j c.args.out.now c.loop-j.out _ c.loop-j.invariant.1
       (c.straight_row.ensures
       ∙ ap (λ (k : ℕ). block_row c.args.samples.now c.args.geometry c.args.column c.args.at k c.loop-j.j)
       (simp (length-take, length-drop) (omega (arith, inside (goal.at.loop-j-preserved c).In-loop-j)))),
 )
-
-pub returns : goal.returns
-returns c = laid_end _ _ (λ j. length-tabulate _ _) _ _ _ _ c.loop-j.invariant.2 (omega arith) (omega arith)

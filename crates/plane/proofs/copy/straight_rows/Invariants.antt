@@ -1,5 +1,5 @@
 -- `plane::copy::straight_rows` meets its contract.
-use Prim.Native.Nat.{ℕ, ◌≤◌}
+use Prim.Native.Nat.{ℕ}
 use mathlib.Core.Path.{◌≡◌}
 use lib.IntN.{pos}
 use lib.ListN.{length}
@@ -17,4 +17,4 @@ block_row s g column at w j = tabulate w (λ i. copied (plane_of s g) (pos colum
 
 abbrev pub invariant-loop-j : goal.invariant-loop-j
 invariant-loop-j l =
-    (l.j ≤ l.h) × (length l.out ≡ length l.initial.out) × (l.out ≡ laid l.w (block_row l.samples l.geometry l.column l.at l.w) l.j l.initial.out)
+    (length l.out ≡ length l.initial.out) × (l.out ≡ laid l.w (block_row l.samples l.geometry l.column l.at l.w) l.j l.initial.out)

@@ -1,58 +1,20 @@
 -- `plane::source::chroma_block` meets its contract.
 use native.Mathlib.Omega.{arith}
-use mathlib.Core.Path.{◌≡◌, refl, sym, ap, subst, ◌∙◌}
-use lib.ListN.{length}
-use Rattle.refusal.specs.declared.Reply.TheVariants.{Done}
-use Rattle.refusal.specs.declared.Reply.{Reply}
-use Rattle.refusal.specs.Reply.{and_then}
-use Rattle.refusal.proofs.Replies.{joined, first_done, then_done}
+use mathlib.Core.Path.{sym, subst, ◌∙◌}
 use Rattle.plane.specs.declared.SourceSize.{SourceSize}
-use Rattle.plane.specs.Plane.{copied_block}
-use Rattle.plane.specs.Corner.{corner_at}
 use Rattle.plane.specs.ToldHeld.{Held}
-use Rattle.plane.specs.Source.{packed, source_chroma_reply}
-use Rattle.plane.specs.Reference.{length_reply}
+use Rattle.plane.specs.Source.{packed}
 use Rattle.plane.proofs.Ready.{length_is}
 use Rattle.plane.proofs.ReadySource.{chroma_ready, chroma_held, column_small, row_small}
-use Rattle.plane.proofs.source.chroma_block.Goals.{After-and_then-reply, In-Done, Start}
 use Rattle.plane.proofs.source.chroma_block.Goals as goal
-
-abbrev source_of : Start → Reply
-source_of s = source_chroma_reply s.args.size (length s.args.chroma.now) s.args.place
-
-abbrev length_of : Start → Reply
-length_of s = length_reply (length s.args.out.now) 8 8
-
-answered : (c : After-and_then-reply) → c.and_then-reply.result ≡ and_then (source_of (goal.at.After-and_then-reply c).Start) (length_of (goal.at.After-and_then-reply c).Start)
-answered c = joined c.and_then-reply.ensures c.chroma_reply.ensures c.length_reply.ensures
-
--- what holds where nothing is refused
-ready : (c : In-Done) → and_then (source_of (goal.at.In-Done c).Start) (length_of (goal.at.In-Done c).Start) ≡ Done
-ready c = sym (answered (goal.at.In-Done c).After-and_then-reply) ∙ c.in-Done.is
 
 pub copy_part-requires : goal.copy_part-requires
 copy_part-requires c =
-    let e = ready (goal.at.copy_part-requires c).In-Done in
-    let r = chroma_ready _ _ _ (first_done (source_of (goal.at.copy_part-requires c).Start) (length_of (goal.at.copy_part-requires c).Start) e) in
+    let r = chroma_ready _ _ _ (sym c.chroma_reply.ensures ∙ c.in_ok-chroma_reply.was) in
     record {
       hold = subst (λ (z : SourceSize). Held (packed c.args.chroma.now z)) (sym c.chroma_size.ensures) (chroma_held _ _ _ r);
       column_small = column_small _ _ r.sides r.place;
       row_small = row_small _ _ r.sides r.place;
       side_small = omega arith;
-      area_fits = length_is _ _ _ (then_done (source_of (goal.at.copy_part-requires c).Start) (length_of (goal.at.copy_part-requires c).Start) e);
-    }
-
-pub returns-in-Refused : goal.returns-in-Refused
-returns-in-Refused c = record {
-  value = sym c.in-Refused.is ∙ answered (goal.at.returns-in-Refused c).After-and_then-reply;
-  out_after = refl;
-}
-
-pub returns-in-Done : goal.returns-in-Done
-returns-in-Done c =
-    let a = c.args in record {
-      value = sym (ready (goal.at.returns-in-Done c).In-Done);
-      out_after = c.copy_part.ensures
-          ∙ ap (λ (z : SourceSize). copied_block (packed a.chroma.now z) (corner_at 8 a.place) 8 8)
-          c.chroma_size.ensures;
+      area_fits = length_is _ _ _ (sym c.length_reply.ensures ∙ c.in_ok-length_reply.was);
     }

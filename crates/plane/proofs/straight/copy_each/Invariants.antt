@@ -1,10 +1,7 @@
 -- `plane::straight::copy_each` meets its contract.
-use Prim.Native.Nat.{◌≤◌}
 use mathlib.Core.Path.{◌≡◌}
-use lib.ListN.{length, get_or}
-use Rattle.basis.proofs.Lists.{filled}
+use lib.ListN.{length, take}
 use Rattle.plane.proofs.straight.copy_each.Given as goal
 
 abbrev pub invariant-loop-i : goal.invariant-loop-i
-invariant-loop-i l =
-    (l.i ≤ l.i-end) × (l.i-end ≡ length l.initial.out) × (length l.out ≡ length l.initial.out) × (l.out ≡ filled l.i (λ k. get_or l.from k 0) l.initial.out)
+invariant-loop-i l = (length l.out ≡ length l.from) × (take l.i l.out ≡ take l.i l.from)

@@ -1,13 +1,6 @@
--- `play::row::add_steps` meets its contract.
-use Prim.Native.Nat.{◌*◌, ◌-◌, ◌≤◌}
-use mathlib.Core.Path.{◌≡◌}
-use lib.ListN.{length}
+-- `play::row::add_steps` meets its contract: a line has at most 198 bytes.
+use Rattle.std.proofs.Common.{◌*◌, ◌≤◌}
 use Rattle.play.proofs.row.add_steps.Given as goal
 
-abbrev pub invariant-loop-column : goal.invariant-loop-column
-invariant-loop-column l =
-    (l.column ≤ l.whole) × (l.at ≤ 198 * l.column) × (length l.lines ≡ length l.initial.lines)
-
-abbrev pub decreases-loop-column : goal.decreases-loop-column
-decreases-loop-column l =
-    l.whole - l.column
+abbrev pub invariant-loop-prediction : goal.invariant-loop-prediction
+invariant-loop-prediction l = l.lines.len ≤ 198 * l.prediction-index

@@ -1,36 +1,27 @@
 -- `prediction::blocks::block_corner` meets its contract.
-use Prim.Native.Nat.{◌*◌, ◌/◌, ◌%◌}
+use Prim.Native.Nat.{ℕ, ◌*◌, ◌/◌, ◌%◌, ◌≤◌}
 use native.Mathlib.Omega.{arith}
-use mathlib.Core.Path.{ap, ◌∙◌}
+use mathlib.Core.Bool.{true}
+use mathlib.Core.Path.{◌≡◌}
 use lib.IntN.{ℤ, pos, negsuc, ◌+ℤ◌}
 use mir.Syntax.{w32}
-use mir.Facts.{to_z-of_z}
-use borrow.Author.Rules.{sfits_of}
-use Rattle.basis.proofs.Signed.{of_bits_lem}
+use mir.Val.{to_z, of_z}
+use Rattle.std.proofs.lemmas.Int.{ints}
 use Rattle.refusal.specs.Test.{in_range}
-use Rattle.refusal.proofs.Tests.{and_left, and_right, range_read}
+use Rattle.refusal.proofs.Tests.{and_left, and_right, range-low, range-high}
 use Rattle.prediction.proofs.blocks.block_corner.Goals as goal
 
-pub moved-x-requires : goal.moved-x-requires
-moved-x-requires c =
-    let o = c.args.corner in
-    let across = and_left (in_range (negsuc 4095) (pos 4096) o.x) (in_range (negsuc 4095) (pos 4096) o.y) c.requires.0 in
-    (range_read (negsuc 4095) (pos 4096) o.x c.struct_told-1.given.0.1 across, omega arith)
-
-pub moved-y-requires : goal.moved-y-requires
-moved-y-requires c =
-    let o = c.args.corner in
-    let along = and_right (in_range (negsuc 4095) (pos 4096) o.x) (in_range (negsuc 4095) (pos 4096) o.y) c.requires.0 in
-    (range_read (negsuc 4095) (pos 4096) o.y c.struct_told-2-1.given.1.0.1 along, omega arith)
+-- what the machine adds
+moved : (z : ℤ) (n : ℕ) → in_range (negsuc 4095) (pos 4096) z ≡ true → n ≤ 8
+    → to_z w32 (of_z w32 (to_z w32 (of_z w32 z) +ℤ to_z w32 n)) ≡ z +ℤ pos n
+moved z n e h = omega (arith, ints, range-low (negsuc 4095) (pos 4096) z e, range-high (negsuc 4095) (pos 4096) z e)
 
 pub returns : goal.returns
 returns c =
     let o = c.args.corner in
     let k = c.args.k in
-    let x =
-    to_z-of_z (sfits_of {w = w32} c.moved-x.type_inv) ∙ c.moved-x.ensures
-    ∙ ap (λ (z : ℤ). z +ℤ pos (8 * (k % 2))) (of_bits_lem o.x c.struct_told-1.given.0.1) in
-    let y =
-    to_z-of_z (sfits_of {w = w32} c.moved-y.type_inv) ∙ c.moved-y.ensures
-    ∙ ap (λ (z : ℤ). z +ℤ pos (8 * (k / 2))) (of_bits_lem o.y c.struct_told-2-1.given.1.0.1) in
-    λ i. record { x = x i; y = y i }
+    λ i.
+    record {
+      x = moved o.x (8 * (k % 2)) (and_left _ _ c.requires.0) (omega arith) i;
+      y = moved o.y (8 * (k / 2)) (and_right (in_range (negsuc 4095) (pos 4096) o.x) _ c.requires.0) (omega arith) i;
+    }

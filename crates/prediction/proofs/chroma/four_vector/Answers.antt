@@ -1,83 +1,108 @@
 -- `prediction::chroma::four_vector` meets its contract.
 use Prim.Native.Nat.{◌≤◌}
 use native.Mathlib.Omega.{arith}
-use mathlib.Core.Path.{◌≡◌, sym, ap, ◌∙◌, subst}
+use mathlib.Core.Path.{◌≡◌, ap, ◌∙◌}
 use lib.IntN.{ℤ, nat_abs, ◌+ℤ◌}
 use mir.Syntax.{w32}
-use mir.Val.{to_z, of_z}
-use Rattle.prediction.specs.declared.BVopSampleMode.{BVopSampleMode}
-use Rattle.prediction.specs.Chroma.{in_halves, chroma_of_sum, chroma_vector}
-use Rattle.prediction.proofs.ChromaRange.{part_x, part_y, first_in, second_in, third_in, fourth_in, four_size, of_sum_size}
-use Rattle.prediction.proofs.Sizes.{size_read}
+use mir.Val.{SFits, to_z, of_z}
+use mir.ValLaws.{to_z-of_z}
+use Rattle.std.proofs.Common.{rules}
+use Rattle.basis.proofs.Sizes.{size_add}
+use Rattle.prediction.specs.Chroma.{chroma_of_sum, chroma_vector}
+use Rattle.prediction.proofs.ChromaRange.{part_x, part_y, first_in, second_in, third_in, fourth_in}
+use Rattle.prediction.proofs.Sizes.{sum_is, sum_fits}
 use Rattle.prediction.proofs.chroma.four_vector.Goals.{Start}
 use Rattle.prediction.proofs.chroma.four_vector.Goals as goal
 
--- a number as the machine reads it back
-abbrev back : ℤ → ℤ
-back z = to_z w32 (of_z w32 z)
+-- what the machine adds
+abbrev added : ℤ → ℤ → ℤ
+added x y = to_z w32 (of_z w32 x) +ℤ to_z w32 (of_z w32 y)
 
-back_size : (z : ℤ) → nat_abs z ≤ 2048 → nat_abs (back z) ≤ 2048
-back_size z h = subst (λ (v : ℤ). nat_abs v ≤ 2048) (sym (size_read z (omega arith))) h
+-- a part of four vectors
+record Parts (p q r s : ℤ) : Type 0 where
+  a : nat_abs p ≤ 2048
+  b : nat_abs q ≤ 2048
+  c : nat_abs r ≤ 2048
+  d : nat_abs s ≤ 2048
 
-abbrev four : BVopSampleMode → ℤ → ℤ → ℤ → ℤ → ℤ
-four m p q r s = chroma_of_sum (in_halves m p +ℤ in_halves m q +ℤ in_halves m r +ℤ in_halves m s)
+module _ (p q r s : ℤ) (h : Parts p q r s) where
+  two_is : added p q ≡ p +ℤ q
+  two_is = sum_is p q (omega arith) (omega arith)
 
--- one part of the four vectors
-module _ (m : BVopSampleMode) (p q r s : ℤ) (hp : nat_abs p ≤ 2048) (hq : nat_abs q ≤ 2048) (hr : nat_abs r ≤ 2048) (hs : nat_abs s ≤ 2048) where
-  four_back : four m (back p) (back q) (back r) (back s) ≡ four m p q r s
-  four_back =
-      λ i.
-      four m (size_read p (omega arith) i) (size_read q (omega arith) i) (size_read r (omega arith) i) (size_read s (omega arith) i)
+  two_fits : SFits w32 (added p q)
+  two_fits = sum_fits p q (omega arith) (omega arith)
 
-  part_is : (z : ℤ) → z ≡ four m (back p) (back q) (back r) (back s) → back z ≡ four m p q r s
-  part_is z e =
-      ap back (e ∙ four_back)
-      ∙ size_read (four m p q r s)
-      (omega (arith, of_sum_size (in_halves m p +ℤ in_halves m q +ℤ in_halves m r +ℤ in_halves m s) (four_size m p q r s hp hq hr hs)))
+  two_size : nat_abs (added p q) ≤ 4096
+  two_size = rw two_is (omega (arith, size_add p q))
+
+  three_is : added (added p q) r ≡ p +ℤ q +ℤ r
+  three_is = sum_is (added p q) r (omega (arith, two_size)) (omega arith) ∙ ap (λ (z : ℤ). z +ℤ r) two_is
+
+  three_fits : SFits w32 (added (added p q) r)
+  three_fits = sum_fits (added p q) r (omega (arith, two_size)) (omega arith)
+
+  three_size : nat_abs (added (added p q) r) ≤ 6144
+  three_size = rw three_is (omega (arith, size_add p q, size_add (p +ℤ q) r))
+
+  four_fits : SFits w32 (added (added (added p q) r) s)
+  four_fits = sum_fits (added (added p q) r) s (omega (arith, three_size)) (omega arith)
+
+  four_read : to_z w32 (of_z w32 (added (added (added p q) r) s)) ≡ p +ℤ q +ℤ r +ℤ s
+  four_read =
+      to_z-of_z w32 (added (added (added p q) r) s) four_fits
+      ∙ sum_is (added (added p q) r) s (omega (arith, three_size)) (omega arith)
+      ∙ ap (λ (z : ℤ). z +ℤ s) three_is
+
+  four_size : nat_abs (to_z w32 (of_z w32 (added (added (added p q) r) s))) ≤ 8192
+  four_size = rw four_read (omega (arith, size_add p q, size_add (p +ℤ q) r, size_add (p +ℤ q +ℤ r) s))
 
 module _ (s : Start) where
-  xa : nat_abs s.args.a.x ≤ 2048
-  xa = part_x s.args.a (first_in s.args.a s.args.b s.args.c s.args.d s.requires)
+  across : Parts s.args.a.x s.args.b.x s.args.c.x s.args.d.x
+  across = record {
+    a = part_x s.args.a (first_in s.args.a s.args.b s.args.c s.args.d s.requires);
+    b = part_x s.args.b (second_in s.args.a s.args.b s.args.c s.args.d s.requires);
+    c = part_x s.args.c (third_in s.args.a s.args.b s.args.c s.args.d s.requires);
+    d = part_x s.args.d (fourth_in s.args.a s.args.b s.args.c s.args.d s.requires);
+  }
 
-  xb : nat_abs s.args.b.x ≤ 2048
-  xb = part_x s.args.b (second_in s.args.a s.args.b s.args.c s.args.d s.requires)
+  down : Parts s.args.a.y s.args.b.y s.args.c.y s.args.d.y
+  down = record {
+    a = part_y s.args.a (first_in s.args.a s.args.b s.args.c s.args.d s.requires);
+    b = part_y s.args.b (second_in s.args.a s.args.b s.args.c s.args.d s.requires);
+    c = part_y s.args.c (third_in s.args.a s.args.b s.args.c s.args.d s.requires);
+    d = part_y s.args.d (fourth_in s.args.a s.args.b s.args.c s.args.d s.requires);
+  }
 
-  xc : nat_abs s.args.c.x ≤ 2048
-  xc = part_x s.args.c (third_in s.args.a s.args.b s.args.c s.args.d s.requires)
+pub overflow_add-a : goal.overflow_add-a
+overflow_add-a c = two_fits _ _ _ _ (across (goal.at.overflow_add-a c).Start)
 
-  xd : nat_abs s.args.d.x ≤ 2048
-  xd = part_x s.args.d (fourth_in s.args.a s.args.b s.args.c s.args.d s.requires)
+pub overflow_add-a-2 : goal.overflow_add-a-2
+overflow_add-a-2 c = three_fits _ _ _ _ (across (goal.at.overflow_add-a-2 c).Start)
 
-  ya : nat_abs s.args.a.y ≤ 2048
-  ya = part_y s.args.a (first_in s.args.a s.args.b s.args.c s.args.d s.requires)
+pub overflow_add-a-3 : goal.overflow_add-a-3
+overflow_add-a-3 c = four_fits _ _ _ _ (across (goal.at.overflow_add-a-3 c).Start)
 
-  yb : nat_abs s.args.b.y ≤ 2048
-  yb = part_y s.args.b (second_in s.args.a s.args.b s.args.c s.args.d s.requires)
+pub of_sum-requires : goal.of_sum-requires
+of_sum-requires c = four_size _ _ _ _ (across (goal.at.of_sum-requires c).Start)
 
-  yc : nat_abs s.args.c.y ≤ 2048
-  yc = part_y s.args.c (third_in s.args.a s.args.b s.args.c s.args.d s.requires)
+pub overflow_add-a-4 : goal.overflow_add-a-4
+overflow_add-a-4 c = two_fits _ _ _ _ (down (goal.at.overflow_add-a-4 c).Start)
 
-  yd : nat_abs s.args.d.y ≤ 2048
-  yd = part_y s.args.d (fourth_in s.args.a s.args.b s.args.c s.args.d s.requires)
+pub overflow_add-a-5 : goal.overflow_add-a-5
+overflow_add-a-5 c = three_fits _ _ _ _ (down (goal.at.overflow_add-a-5 c).Start)
 
-pub of_four-requires : goal.of_four-requires
-of_four-requires c =
-    let s = (goal.at.of_four-requires c).Start in
-    (back_size c.args.a.x (xa s), back_size c.args.b.x (xb s), back_size c.args.c.x (xc s), back_size c.args.d.x (xd s))
+pub overflow_add-a-6 : goal.overflow_add-a-6
+overflow_add-a-6 c = four_fits _ _ _ _ (down (goal.at.overflow_add-a-6 c).Start)
 
-pub of_four-requires-2 : goal.of_four-requires-2
-of_four-requires-2 c =
-    let s = (goal.at.of_four-requires-2 c).Start in
-    (back_size c.args.a.y (ya s), back_size c.args.b.y (yb s), back_size c.args.c.y (yc s), back_size c.args.d.y (yd s))
+pub of_sum-requires-2 : goal.of_sum-requires-2
+of_sum-requires-2 c = four_size _ _ _ _ (down (goal.at.of_sum-requires-2 c).Start)
 
 pub returns : goal.returns
 unfolding chroma_vector
 returns c =
     let s = (goal.at.returns c).Start in
-    let a = c.args in
-    let m = a.mode in
     λ i.
     record {
-      x = part_is m a.a.x a.b.x a.c.x a.d.x (xa s) (xb s) (xc s) (xd s) c.of_four.result c.of_four.ensures i;
-      y = part_is m a.a.y a.b.y a.c.y a.d.y (ya s) (yb s) (yc s) (yd s) c.of_four-2.result c.of_four-2.ensures i;
+      x = (to_z-of_z w32 c.of_sum.result (search rules) ∙ c.of_sum.ensures ∙ ap chroma_of_sum (four_read _ _ _ _ (across s))) i;
+      y = (to_z-of_z w32 c.of_sum-2.result (search rules) ∙ c.of_sum-2.ensures ∙ ap chroma_of_sum (four_read _ _ _ _ (down s))) i;
     }

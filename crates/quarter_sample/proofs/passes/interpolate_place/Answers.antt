@@ -1,10 +1,6 @@
 -- `interpolate_place` meets its contract: each arm is its place's rule.
-use Prim.Native.Nat.{ℕ, ◌+◌, ◌*◌, ◌<◌}
-use mathlib.Core.List.{List}
-use mathlib.Core.Path.{◌≡◌, ◌∙◌}
-use lib.Dec.{lit<}
-use lib.ListN.{length}
-use Rattle.quarter_sample.specs.ToldPasses.{rows_at, columns_at, whole_at, both_at, place_at, block_source, PassNeeds}
+use Rattle.std.proofs.Common.{ℕ, ◌≡◌, ◌+◌, ◌*◌, ◌<◌, List, sym, ap, ◌∙◌, lit<}
+use Rattle.quarter_sample.specs.ToldPasses.{rows_at, columns_at, whole_at, both_at, place_at, block_source}
 use Rattle.quarter_sample.proofs.Sixteen.{last_place}
 use Rattle.quarter_sample.proofs.Blocks.{place_by_steps, whole, across, down}
 use Rattle.quarter_sample.proofs.passes.interpolate_place.Goals.{Start}
@@ -16,7 +12,8 @@ rule : (s : Start) (fx fy : ℕ) {out : List ℕ} → fx < 4 → fy < 4 → let 
     → out ≡ place_at a.w a.h a.rc a.max a.fractions a.block.now
 rule s fx fy {out} p q e o =
     let a = s.args in
-    place_by_steps a.rc a.max a.w a.h fx fy a.fractions (block_source a.w a.h a.block.now) out p q e o
+    o ∙ place_by_steps a.rc a.max a.w a.h fx fy (block_source a.w a.h a.block.now) p q
+    ∙ ap (λ (n : ℕ). place_at a.w a.h a.rc a.max n a.block.now) (sym e)
 
 -- one pass alone, and the copy, are two steps of which one or both stay
 module _ (s : Start) where
@@ -43,69 +40,6 @@ module _ (s : Start) where
 
   down_is : (fy : ℕ) → columns_at w h rc max fy block (w + 1) ≡ both_at w h rc max 0 fy block
   down_is = down rc max w h block
-
--- what a pass needs
-pass : (s : Start) (fraction : ℕ) → 0 < fraction → fraction < 4 → let a = s.args in PassNeeds a.w a.h fraction a.rc (length a.out.now)
-pass s fraction p q =
-    let n = s.requires.0 in
-    record {
-      width_low = n.width_low;
-      width_high = n.width_high;
-      height_low = n.height_low;
-      height_high = n.height_high;
-      some_fraction = p;
-      fraction_small = q;
-      rc_small = n.rc_small;
-      out_fits = n.out_fits;
-    }
-
-pub copy_rows-requires : goal.copy_rows-requires
-copy_rows-requires c = let n = c.requires.0 in (n.width_high, n.height_high, n.out_fits)
-
-pub row_pass-requires : goal.row_pass-requires
-row_pass-requires c = pass (goal.at.row_pass-requires c).Start 1 (lit< tt) (lit< tt)
-
-pub row_pass-requires-in-2 : goal.row_pass-requires-in-2
-row_pass-requires-in-2 c = pass (goal.at.row_pass-requires-in-2 c).Start 2 (lit< tt) (lit< tt)
-
-pub row_pass-requires-in-3 : goal.row_pass-requires-in-3
-row_pass-requires-in-3 c = pass (goal.at.row_pass-requires-in-3 c).Start 3 (lit< tt) (lit< tt)
-
-pub column_pass-requires : goal.column_pass-requires
-column_pass-requires c = pass (goal.at.column_pass-requires c).Start 1 (lit< tt) (lit< tt)
-
-pub both_passes-requires : goal.both_passes-requires
-both_passes-requires c = (pass (goal.at.both_passes-requires c).Start 1 (lit< tt) (lit< tt), lit< tt, lit< tt)
-
-pub both_passes-requires-in-6 : goal.both_passes-requires-in-6
-both_passes-requires-in-6 c = (pass (goal.at.both_passes-requires-in-6 c).Start 2 (lit< tt) (lit< tt), lit< tt, lit< tt)
-
-pub both_passes-requires-in-7 : goal.both_passes-requires-in-7
-both_passes-requires-in-7 c = (pass (goal.at.both_passes-requires-in-7 c).Start 3 (lit< tt) (lit< tt), lit< tt, lit< tt)
-
-pub column_pass-requires-in-8 : goal.column_pass-requires-in-8
-column_pass-requires-in-8 c = pass (goal.at.column_pass-requires-in-8 c).Start 2 (lit< tt) (lit< tt)
-
-pub both_passes-requires-in-9 : goal.both_passes-requires-in-9
-both_passes-requires-in-9 c = (pass (goal.at.both_passes-requires-in-9 c).Start 1 (lit< tt) (lit< tt), lit< tt, lit< tt)
-
-pub both_passes-requires-in-10 : goal.both_passes-requires-in-10
-both_passes-requires-in-10 c = (pass (goal.at.both_passes-requires-in-10 c).Start 2 (lit< tt) (lit< tt), lit< tt, lit< tt)
-
-pub both_passes-requires-in-11 : goal.both_passes-requires-in-11
-both_passes-requires-in-11 c = (pass (goal.at.both_passes-requires-in-11 c).Start 3 (lit< tt) (lit< tt), lit< tt, lit< tt)
-
-pub column_pass-requires-in-12 : goal.column_pass-requires-in-12
-column_pass-requires-in-12 c = pass (goal.at.column_pass-requires-in-12 c).Start 3 (lit< tt) (lit< tt)
-
-pub both_passes-requires-in-13 : goal.both_passes-requires-in-13
-both_passes-requires-in-13 c = (pass (goal.at.both_passes-requires-in-13 c).Start 1 (lit< tt) (lit< tt), lit< tt, lit< tt)
-
-pub both_passes-requires-in-14 : goal.both_passes-requires-in-14
-both_passes-requires-in-14 c = (pass (goal.at.both_passes-requires-in-14 c).Start 2 (lit< tt) (lit< tt), lit< tt, lit< tt)
-
-pub both_passes-requires-in_default : goal.both_passes-requires-in_default
-both_passes-requires-in_default c = (pass (goal.at.both_passes-requires-in_default c).Start 3 (lit< tt) (lit< tt), lit< tt, lit< tt)
 
 pub returns-in-0 : goal.returns-in-0
 returns-in-0 c =

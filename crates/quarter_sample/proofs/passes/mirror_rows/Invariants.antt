@@ -1,8 +1,6 @@
 -- `mirror_rows` meets its contract: after u turns u rows are laid.
-use Prim.Native.Nat.{◌≤◌}
 use mathlib.Core.Path.{◌≡◌}
 use lib.IntN.{pos, ◌-ℤ◌}
-use lib.ListN.{length}
 use Rattle.basis.specs.Lists.{tabulate}
 use Rattle.basis.proofs.Lists.{laid}
 use Rattle.quarter_sample.specs.ToldPasses.{column_line}
@@ -10,4 +8,4 @@ use Rattle.quarter_sample.proofs.passes.mirror_rows.Given as goal
 
 abbrev pub invariant-loop-u : goal.invariant-loop-u
 invariant-loop-u l =
-    (l.u ≤ l.rows) × (length l.out ≡ length l.initial.out) × (l.out ≡ laid l.w (λ u. tabulate l.w (λ i. column_line l.src l.stride l.size i (pos u -ℤ pos 3))) l.u l.initial.out)
+    l.out ≡ laid l.w (λ u. tabulate l.w (λ i. column_line l.src l.stride l.size i (pos u -ℤ pos 3))) l.u l.initial.out

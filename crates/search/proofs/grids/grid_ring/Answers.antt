@@ -1,40 +1,32 @@
 -- `search::grids::grid_ring` meets its contract.
-use Prim.Native.Nat.{ℕ}
 use native.Mathlib.Omega.{arith}
-use mathlib.Core.List.{foldl}
-use mathlib.Core.Path.{◌≡◌, refl, ap, ◌∙◌}
-use Rattle.basis.specs.Lists.{rows}
-use Rattle.full_search.specs.Costs.{consider}
-use Rattle.full_search.proofs.Kept.{pieces_more}
-use Rattle.search.specs.Sub.{ring_at, ring}
+use borrow.Author.Rules.{rules}
+use mathlib.Core.Path.{◌≡◌, ◌∙◌}
+use Rattle.full_search.proofs.Moves.{wider}
+use Rattle.search.specs.ToldGrids.{Grids, grid_sum}
 use Rattle.search.proofs.grids.grid_ring.Goals as goal
 
-pub loop-n-init : goal.loop-n-init
-unfolding rows
-loop-n-init c = (omega arith, λ sum s. refl)
+pub ring-requires-clause-around : goal.ring-requires-clause-around
+ring-requires-clause-around c =
+    record { centre_small = wider (omega arith) c.requires.1; fcode_usable = c.requires.2; step_small = omega arith }
 
-pub grid_place-b-requires : goal.grid_place-b-requires
-grid_place-b-requires c =
-    record { grids = c.requires.0; centre_small = c.requires.1; fcode_usable = c.requires.2; place_is = c.loop-n-test.true }
-
-pub loop-n-preserved : goal.loop-n-preserved
-loop-n-preserved c =
+pub ring-requires-clause-callable : goal.ring-requires-clause-callable
+ring-requires-clause-callable c =
     let a = c.args in
-    let place = ring_at a.fcode 1 a.best.vector in (
-      omega arith,
-      λ sum s.
-          c.grid_place-b.ensures.kept sum s
-          ∙ pieces_more sum a.best c.loop-n.b place c.loop-n.n (c.loop-n.invariant.1 sum s) refl,
-    )
+    let g : Grids a.side a.source.now a.right.now a.under.now a.diagonal.now = c.requires.0 in
+    record { each = λ n h. search rules }
 
 pub returns : goal.returns
-unfolding ring
 returns c =
     let a = c.args in
-    let e : c.loop-n.n ≡ 9 = omega arith in
     record {
       kept =
           λ sum s.
-          c.loop-n.invariant.1 sum s
-          ∙ ap (λ (n : ℕ). foldl (consider sum) a.best (rows n (ring_at a.fcode 1 a.best.vector))) e;
+          c.ring.ensures.kept sum
+          (record {
+            each =
+                λ n cost h k p.
+                let e : cost ≡ grid_sum a.side a.source.now a.right.now a.under.now a.diagonal.now n = search rules in
+                e ∙ s.each n h k;
+          });
     }

@@ -1,34 +1,28 @@
 -- `search::grids::grid_sum` meets its contract.
-use native.Mathlib.Omega.{arith}
-use mathlib.Core.Path.{◌∙◌}
-use Rattle.full_search.proofs.Sides.{side_most}
+use mathlib.Core.Path.{ap, ◌∙◌}
+use mathlib.Core.List.{List}
+use Prim.Native.Nat.{ℕ, ◌+◌}
+use Rattle.full_search.specs.Window.{window_sum_of}
 use Rattle.search.proofs.GridSums.{standing, sum_right, sum_under, sum_diagonal}
+use Rattle.search.proofs.grids.grid_sum.Goals.{then-n-eq1, else-n-eq1+then-n-eq1-2, else-n-eq1+else-n-eq1-2}
 use Rattle.search.proofs.grids.grid_sum.Goals as goal
-
-pub window_of-at-requires : goal.window_of-at-requires
-window_of-at-requires c =
-    (omega (arith, side_most c.args.side c.requires.0.is_side_is), c.requires.1)
-
-pub returns-then-n-eq1 : goal.returns-then-n-eq1
-returns-then-n-eq1 c =
-    let a = c.args in
-    let g = c.requires.0 in
-    c.window_sum.ensures
-    ∙ standing a.side a.source.now a.right.now a.n _ g.is_side_is g.source_fits g.right_fits c.window_of-at.ensures
-    ∙ sum_right a.side a.source.now a.right.now a.under.now a.diagonal.now a.n c.if-n-eq1.true
-
-pub returns-then-n-eq1-2 : goal.returns-then-n-eq1-2
-returns-then-n-eq1-2 c =
-    let a = c.args in
-    let g = c.requires.0 in
-    c.window_sum-then-n-eq1-2.ensures
-    ∙ standing a.side a.source.now a.under.now a.n _ g.is_side_is g.source_fits g.under_fits c.window_of-at.ensures
-    ∙ sum_under a.side a.source.now a.right.now a.under.now a.diagonal.now a.n c.if-n-eq1.false c.if-n-eq1-2.true
 
 pub returns : goal.returns
 returns c =
     let a = c.args in
     let g = c.requires.0 in
-    c.window_sum-2.ensures
-    ∙ standing a.side a.source.now a.diagonal.now a.n _ g.is_side_is g.source_fits g.diagonal_fits c.window_of-at.ensures
-    ∙ sum_diagonal a.side a.source.now a.right.now a.under.now a.diagonal.now a.n c.if-n-eq1.false c.if-n-eq1-2.false
+    let on = λ (grid : List ℕ). window_sum_of a.source.now grid c.window_of.result (a.side + 2) a.side in
+    elim c.if-n-eq1.branch [
+      | then-n-eq1 w ↦
+          c.window_sum.ensures ∙ ap (λ r. on r.now) w.grid-is
+          ∙ standing a.side a.source.now a.right.now a.n _ g.is_side_is g.source_fits g.right_fits c.window_of.ensures
+          ∙ sum_right a.side a.source.now a.right.now a.under.now a.diagonal.now a.n w.if-n-eq1.true
+      | else-n-eq1+then-n-eq1-2 w ↦
+          c.window_sum.ensures ∙ ap (λ r. on r.now) w.grid-is
+          ∙ standing a.side a.source.now a.under.now a.n _ g.is_side_is g.source_fits g.under_fits c.window_of.ensures
+          ∙ sum_under a.side a.source.now a.right.now a.under.now a.diagonal.now a.n w.if-n-eq1.false w.if-n-eq1-2.true
+      | else-n-eq1+else-n-eq1-2 w ↦
+          c.window_sum.ensures ∙ ap (λ r. on r.now) w.grid-is
+          ∙ standing a.side a.source.now a.diagonal.now a.n _ g.is_side_is g.source_fits g.diagonal_fits c.window_of.ensures
+          ∙ sum_diagonal a.side a.source.now a.right.now a.under.now a.diagonal.now a.n w.if-n-eq1.false w.if-n-eq1-2.false
+    ]

@@ -1,38 +1,37 @@
 -- `search::sub::ring_search` meets its contract.
-use Prim.Native.Nat.{ℕ}
 use native.Mathlib.Omega.{arith}
-use mathlib.Core.List.{foldl}
-use mathlib.Core.Path.{◌≡◌, refl, ap, ◌∙◌}
-use Rattle.basis.specs.Lists.{rows}
-use Rattle.record.specs.declared.MotionVector.{MotionVector}
-use Rattle.full_search.specs.Block.{block_of}
-use Rattle.full_search.specs.Costs.{consider}
-use Rattle.full_search.proofs.Kept.{pieces_more}
-use Rattle.search.specs.Sums.{vector_sum}
-use Rattle.search.specs.Sub.{ring_at, ring}
-use Rattle.search.proofs.sub.ring_search.Goals.{Start}
+use borrow.Author.Rules.{rules}
+use Rattle.full_search.proofs.Moves.{wider}
+use Rattle.search.specs.Sub.{neighbour}
+use Rattle.search.specs.Told.{Predictable}
+use Rattle.search.proofs.InRange.{in_within, in_interpolation}
+use Rattle.search.proofs.Refined.{neighbour_in}
 use Rattle.search.proofs.sub.ring_search.Goals as goal
 
-abbrev sum_of : Start → MotionVector → ℕ
-sum_of s = let a = s.args in vector_sum a.settings (block_of a.source.now a.reference.now a.target)
+pub ring-requires-clause-around : goal.ring-requires-clause-around
+ring-requires-clause-around c =
+    let p = c.requires in
+    let f = p.settings.fcode_usable in
+    record {
+      centre_small = wider (omega arith) (in_within c.args.settings.fcode c.args.best.vector f p.centre_in);
+      fcode_usable = f;
+      step_small = p.step_small;
+    }
 
-pub loop-n-init : goal.loop-n-init
-unfolding rows
-loop-n-init c = (omega arith, refl)
-
-pub ring_place-b-requires : goal.ring_place-b-requires
-ring_place-b-requires c =
-    (c.requires, c.loop-n-test.true)
-
-pub loop-n-preserved : goal.loop-n-preserved
-loop-n-preserved c =
+pub ring-requires-clause-callable : goal.ring-requires-clause-callable
+ring-requires-clause-callable c =
     let a = c.args in
-    let place = ring_at a.settings.fcode a.step a.best.vector in
-    (omega arith, c.ring_place-b.ensures ∙ pieces_more (sum_of (goal.at.loop-n-preserved c).Start) a.best c.loop-n.b place c.loop-n.n c.loop-n.invariant.1 refl)
-
-pub returns : goal.returns
-unfolding ring
-returns c =
-    let a = c.args in
-    let e : c.loop-n.n ≡ 9 = omega arith in
-    c.loop-n.invariant.1 ∙ ap (λ (n : ℕ). foldl (consider (sum_of (goal.at.returns c).Start)) a.best (rows n (ring_at a.settings.fcode a.step a.best.vector))) e
+    let t = c.requires.settings in
+    let f = a.settings.fcode in
+    record {
+      each =
+          λ n h.
+          let v = neighbour f a.step a.best.vector n in
+          let p : Predictable a.source.now a.reference.now a.target a.settings v =
+          record {
+            ready = c.requires.ready;
+            mode_usable = t.mode_usable;
+            vector_in_is = in_interpolation f v t.fcode_usable (neighbour_in f a.step a.best.vector n);
+          } in
+          search rules;
+    }

@@ -1,8 +1,0 @@
--- `quantise::by_weights` meets its contract.
-use mathlib.Core.Bool.{true}
-use Rattle.quantise.specs.Block.{level_at}
-use Rattle.quantise.proofs.Storing.{StoredSoFar}
-use Rattle.quantise.proofs.by_weights.Given as goal
-
-abbrev pub invariant-loop-i : goal.invariant-loop-i
-invariant-loop-i l = StoredSoFar (level_at true l.quantiser l.weights l.coefficients) l.initial.out l.out l.i

@@ -1,8 +1,0 @@
--- `refusal::unless` meets its contract.
-use Rattle.refusal.proofs.unless.Goals as goal
-
-pub returns-then-holds : goal.returns-then-holds
-returns-then-holds c = rw c.if-holds.true
-
-pub returns : goal.returns
-returns c = rw c.if-holds.false
