@@ -1,6 +1,6 @@
-// One coefficient or level: both forward methods for inter blocks, and the inverse of the second (rules L1 to L4). Sizes
-// are divided, a quotient drops its fraction, and the sign returns last.
-ghost use Rattle.std.specs.Prelude.{◌≡◌, ◌≤◌, ◌<◌, ◌^◌, nat_abs};
+// One coefficient or level: both forward methods for inter blocks, and the inverse of the second (rules L1 to L4). Signed where it is
+// divided or cut; a quotient drops its fraction toward 0.
+ghost use Rattle.std.specs.Prelude.{◌≡◌, ◌/◌, ◌≤◌, ◌<◌, ◌^◌, nat_abs};
 ghost use Rattle.basis.specs.Signed.{signed};
 ghost use Rattle.quantise.specs.Level.{level_by_quantiser, level_by_weight, inverse_size, inverse_by_quantiser};
 ghost use Rattle.quantise.specs.Told.{reciprocal_of, Quantisable, Weighable};
@@ -12,6 +12,15 @@ fn signed(of: i32, size: u32) -> i32
 {
     let above = size as i32;
     if of < 0 { -above } else { above }
+}
+
+// A size with the sign of `of`, divided toward 0.
+#[tactic(auto, using(crate::proofs::Signs::signed_quot))]
+fn quotient(of: i32, size: u32, d: u32) -> i32
+    requires { (size < 2 ^ 31) × (0 < d) × (d < 2 ^ 31) }
+    ensures { result ≡ signed of (size / d) }
+{
+    signed(of, size) / d as i32
 }
 
 // What a division by d is as a product, in parts of 2^15, rounded up.
@@ -32,14 +41,14 @@ pub fn quantise_method2_inter(f: i32, quantiser_scale: u32, by: u32) -> i32
     signed(f, rest / 2 * by / 32768)
 }
 
-#[tactic(auto, using(crate::proofs::Signs::signed_cut), unfolding(crate::specs::Level::level_by_weight))]
+#[tactic(auto, using(crate::proofs::Signs::clamped), unfolding(crate::specs::Level::level_by_weight))]
 pub fn quantise_method1_inter(f: i32, w: u8, quantiser_scale: u32) -> i32
     requires { Weighable f w quantiser_scale }
     ensures { result ≡ level_by_weight w quantiser_scale f }
 {
     let d = u32::from(w) * quantiser_scale;
     let rest = (16 * f.unsigned_abs()).saturating_sub(d);
-    signed(f, (rest / (2 * d)).min(2047))
+    quotient(f, rest, 2 * d).clamp(-2047, 2047)
 }
 
 // The size of what a level of size l stands for, before saturation.

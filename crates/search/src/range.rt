@@ -36,15 +36,24 @@ pub fn full_pel_window(settings: SearchSettings) -> usize
     (range(settings.fcode) / units_per_pel(settings.mode) - 1).max(8)
 }
 
-// The least and the greatest part of a vector in the range of fcode.
+// The least and the greatest part of a vector in a range.
+#[derive(Clone, Copy)]
+struct Bounds {
+    low: i32,
+    high: i32,
+}
+
 #[tactic(auto, using(crate::proofs::Ends::low_read, crate::proofs::Ends::high_read))]
-fn ends(fcode: u32) -> (i32, i32)
+fn ends(fcode: u32) -> Bounds
     requires { between 1 7 fcode ≡ true }
-    ensures low { result.0 ≡ low fcode }
-    ensures high { result.1 ≡ high fcode }
+    ensures low { result.low ≡ low fcode }
+    ensures high { result.high ≡ high fcode }
 {
     let n = range(fcode) as i32;
-    (-n, n - 1)
+    Bounds {
+        low: -n,
+        high: n - 1,
+    }
 }
 
 // A vector, clamped into the range of fcode.
@@ -52,7 +61,7 @@ pub fn clamped(v: MotionVector, fcode: u32) -> MotionVector
     requires { between 1 7 fcode ≡ true }
     ensures { result ≡ clamped fcode v }
 {
-    let (low, high) = ends(fcode);
+    let Bounds { low, high } = ends(fcode);
     MotionVector {
         x: basis::clamp(v.x, low, high),
         y: basis::clamp(v.y, low, high),
@@ -64,6 +73,6 @@ pub fn vector_in(v: MotionVector, fcode: u32) -> bool
     requires { between 1 7 fcode ≡ true }
     ensures { result ≡ vector_in fcode v }
 {
-    let (low, high) = ends(fcode);
+    let Bounds { low, high } = ends(fcode);
     (low..=high).contains(&v.x) && (low..=high).contains(&v.y)
 }
