@@ -26,7 +26,7 @@ lines 4 'tests by functions of refusal and basis' 'refusal::(both|either|between
 lines 4 'plain types with no derive but Clone and Copy' '^#\[derive\(Clone, Copy\)\]'
 lines 5 'samples and their geometry side by side' '^    (samples|reference|ref_y|reference_y): &\[u8\],'
 lines 5 'three planes, predictions or event areas side by side' '^    (\w*cb|runs|zero_runs): &'
-lines 5 'contracts that tell the same record of facts' 'requires.*\b(Held|Ready|Grids|PassNeeds|FreeStart|Ringed|Judged) '
+lines 5 'contracts that tell the same record of facts' 'requires.*\b(Held|Ready|SoughtReady|Grids|PassNeeds|BlockNeeds|FreeStart|Predictable|Ringed|Judged|RowReady|PlaceReady|TapsFit|Within|between 1 7|head_reply) '
 lines 6 'buffers with a length, parallel arrays' 'bytes: \[u8; 198\]|(equal|refused): \[u64|sums: \[u32; 4\]'
 lines 7 'switches on which step to run' '^ *match (mode|motion|fraction|fractions|entry|w|stored::entry\(call\)|settings\.mode) \{'
 files 8 'answers' Answers.antt

@@ -2,11 +2,9 @@
 use Rattle.refusal.specs.declared.Refusal.{Refusal}
 use Rattle.search.specs.declared.EstimatedFour.{EstimatedFour}
 use Rattle.search.specs.declared.Estimated.{Estimated}
-use Rattle.std.specs.Prelude.{ℕ, ◌&&◌, List, [], ◌∷◌, eqb, ℤ, Result}
+use Rattle.std.specs.Prelude.{ℕ, ◌&&◌, List, [], ◌∷◌, eqb, ℤ, Result, Ok}
 use Rattle.refusal.specs.declared.Refusal.TheVariants.{Length}
-use Rattle.refusal.specs.Reply.{Reply, also}
-use Rattle.std.specs.Prelude.{Ok}
-use Rattle.refusal.specs.Reply.{unless, and_then}
+use Rattle.refusal.specs.Reply.{unless, also}
 use Rattle.record.specs.declared.MotionVector.{MotionVector}
 
 -- what the search replies, then 12 where an area is not exactly as long as its answer: a vector's two numbers and its sum

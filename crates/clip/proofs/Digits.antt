@@ -2,16 +2,13 @@
 use Prim.Native.Nat.{ℕ, zero, suc, ◌+◌, ◌-◌, ◌*◌, ◌/◌, ◌%◌, ◌^◌, ◌<◌, ◌≤◌}
 use native.Mathlib.Omega.{arith}
 use native.Mathlib.Nat.{div-lt_iff_lt-mul, pow-suc, one-le-pow}
-use mathlib.Core.Bool.{true, false}
 use mathlib.Core.List.{List, [], ◌∷◌, ◌++◌, foldl-append}
-use mathlib.Core.Path.{◌≡◌, refl, sym, ap, ◌∙◌, subst}
+use mathlib.Core.Path.{◌≡◌, sym, ap, ◌∙◌, subst}
 use lib.Dec.{ltb}
-use lib.IntN.{ℤ, pos, negsuc, nat_abs}
 use lib.ListN.{length, get_or, length-append}
-use lib.Signed.{lt_z}
-use borrow.Author.Tests.{lt-ltb, le-ltb, ltb-true}
+use borrow.Author.Tests.{lt-ltb, le-ltb}
 use Rattle.basis.proofs.Case.{then, else, either}
-use Rattle.clip.specs.Decimal.{digits, decimal, decimal_z, value_of, Numeral}
+use Rattle.clip.specs.Decimal.{digits, decimal, value_of, Numeral}
 
 digits_one : (k n : ℕ) → n < 10 → digits (suc k) n ≡ (48 + n) ∷ []
 unfolding digits
@@ -135,17 +132,3 @@ exactly n k h b = omega (arith, decimal-length n k h, length-decimal n k b)
 -- twenty digits hold any number of 64 bits
 pub twenty_are_enough : (n : ℕ) → n < 2 ^ 64 → length (decimal n) ≤ 20
 twenty_are_enough n h = length-decimal n 19 (omega arith)
-
-not_below_lem : (n : ℕ) → n < 0 → ⊥
-not_below_lem n h = omega arith
-
--- a negative number is its sign and its size, another its size
-pub minus_first : (z : ℤ) → lt_z z (pos 0) ≡ true → decimal_z z ≡ 45 ∷ decimal (nat_abs z)
-unfolding decimal_z
-minus_first (pos n) e = absurd (not_below_lem n (ltb-true n 0 e))
-minus_first (negsuc n) e = refl
-
-pub no_minus : (z : ℤ) → lt_z z (pos 0) ≡ false → decimal_z z ≡ decimal (nat_abs z)
-unfolding decimal_z
-no_minus (pos n) e = refl
-no_minus (negsuc n) e = absurd (let z : ◌≡◌ {A = ℕ} 0 1 = cc in omega arith)

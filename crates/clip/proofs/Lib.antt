@@ -1,5 +1,6 @@
 pub mod Digits
 pub mod Lines
+pub mod Printed
 pub mod Room
 pub mod Texts
 pub mod TypedRecord

@@ -1,10 +1,8 @@
 -- The header of the program's input: eight bytes. Rules W1, W2.
 use Rattle.refusal.specs.declared.Refusal.{Refusal}
-use Rattle.std.specs.Prelude.{◌&&◌, List, ℕ, ◌+◌, ◌*◌, leb, get_or, Result}
+use Rattle.std.specs.Prelude.{◌&&◌, List, ℕ, ◌+◌, ◌*◌, leb, get_or, Result, Ok}
 use Rattle.refusal.specs.declared.Refusal.TheVariants.{Fcode, Mode, SourceSide, Quantiser, Length, Choice}
-use Rattle.refusal.specs.Reply.{Reply, answer}
-use Rattle.std.specs.Prelude.{Ok}
-use Rattle.refusal.specs.Reply.{unless}
+use Rattle.refusal.specs.Reply.{Reply, answer, unless}
 use Rattle.refusal.specs.Bounds.{is_fcode, is_mode, is_quantiser, is_vector_count}
 use Rattle.refusal.specs.Test.{between}
 use Rattle.clip.specs.declared.Head.{Head}

@@ -1,16 +1,11 @@
 -- Told, not believed: how a text grows, byte by byte while there is room. The program's lines never want for it (proofs/Room.antt).
-use Rattle.std.specs.Prelude.{cond, List, [], ◌∷◌, ℕ, ◌+◌, ltb, replicate, set}
-use Rattle.clip.specs.declared.Text.{Text}
-
--- a text that holds nothing yet
-abbrev pub no_text : Text
-no_text = record { bytes = replicate 198 0; len = 0 }
+use Rattle.std.specs.Prelude.{cond, List, [], ◌∷◌, ◌++◌, ℕ, length, ltb}
 
 -- one byte more
-unfoldable pub pushed : Text → ℕ → Text
-pushed t b = cond (ltb t.len 198) (record { bytes = set t.bytes t.len b; len = t.len + 1 }) t
+unfoldable pub pushed : List ℕ → ℕ → List ℕ
+pushed t b = cond (ltb (length t) 198) (t ++ (b ∷ [])) t
 
 -- a list of bytes more
-unfoldable pub pushes : Text → List ℕ → Text
+unfoldable pub pushes : List ℕ → List ℕ → List ℕ
 pushes t [] = t
 pushes t (b ∷ l) = pushes (pushed t b) l

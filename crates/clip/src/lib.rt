@@ -2,11 +2,10 @@
 // and its lines (rules W1 to W7).
 #![tactic(auto)]
 
-ghost use Rattle.std.specs.Prelude.{◌≡◌, ◌&&◌, cond, [], ◌≤◌};
+ghost use Rattle.std.specs.Prelude.{◌≡◌, ◌&&◌, cond, [], ◌≤◌, length};
 ghost use Rattle.refusal.specs.Test.{between};
 ghost use Rattle.clip.specs.Header.{head_of, head_reply, header_of};
 ghost use Rattle.clip.specs.Planes.{plane_lengths_of};
-ghost use Rattle.clip.specs.Text.{text_of};
 ghost use Rattle.clip.specs.ToldPush.{pushes};
 ghost use Rattle.clip.specs.Line.{spaced, concatenated, refusal_line, macroblock_words, four_words, macroblock_line};
 
@@ -15,8 +14,10 @@ use refusal::{Refusal, Reply};
 
 mod write;
 
+pub use write::Text;
+
 // What a header says, under the names of the standard and of the rules (rule W1).
-#[derive(Clone, Copy)]
+#[derive(Clone, Copy, Debug, PartialEq, Eq)]
 pub struct Head {
     pub width: usize,
     pub height: usize,
@@ -27,17 +28,10 @@ pub struct Head {
 }
 
 // How many bytes a plane has.
-#[derive(Clone, Copy)]
+#[derive(Clone, Copy, Debug, PartialEq, Eq)]
 pub struct PlaneLengths {
     pub luma: usize,
     pub chroma: usize,
-}
-
-// Text in the first `len` of the bytes; the rest is 0. No line is longer.
-#[derive(Clone, Copy)]
-pub struct Text {
-    pub bytes: [u8; 198],
-    pub len: usize,
 }
 
 fn head_of(bytes: &[u8; 8]) -> Head
@@ -100,12 +94,12 @@ pub fn plane_lengths(head: Head) -> PlaneLengths
 
 // `refused` and the number.
 pub fn refusal_line(why: Refusal) -> Text
-    ensures { (result ≡ text_of (refusal_line why)) × (result.len ≤ 198) }
+    ensures { (result ≡ refusal_line why) × (length result ≤ 198) }
 {
-    let mut refused = write::empty();
-    write::push_all(&mut refused, b"refused");
-    write::word(&mut refused, u64::from(u8::from(why)));
-    write::push(&mut refused, b'\n');
+    let mut refused = Text::new();
+    refused.push_all(b"refused");
+    refused.word(u64::from(u8::from(why)));
+    refused.push_all(b"\n");
     refused
 }
 
@@ -113,13 +107,13 @@ pub fn refusal_line(why: Refusal) -> Text
 fn macroblock_words(line: &mut Text, column: usize, row: usize, given: Record)
     ensures { line.new ≡ pushes line.old (concatenated (macroblock_words column row given)) }
 {
-    write::number(line, column as u64);
-    write::word(line, row as u64);
-    write::vector_words(line, given.vector);
-    write::word(line, u64::from(given.sum));
-    write::word(line, u64::from(given.luma_pattern));
-    write::word(line, u64::from(given.chroma_pattern));
-    write::word(line, record::event_count(given.counts));
+    line.number(column as u64);
+    line.word(row as u64);
+    line.vector_words(given.vector);
+    line.word(u64::from(given.sum));
+    line.word(u64::from(given.luma_pattern));
+    line.word(u64::from(given.chroma_pattern));
+    line.word(record::event_count(given.counts));
 }
 
 // The four vectors and the total of their sums.
@@ -127,11 +121,11 @@ fn four_words(line: &mut Text, given: Record)
     ensures { line.new ≡ pushes line.old (spaced (four_words given)) }
 {
     let vectors = given.vectors;
-    write::vector_words(line, vectors[0]);
-    write::vector_words(line, vectors[1]);
-    write::vector_words(line, vectors[2]);
-    write::vector_words(line, vectors[3]);
-    write::word(line, record::four_total(given.sums));
+    line.vector_words(vectors[0]);
+    line.vector_words(vectors[1]);
+    line.vector_words(vectors[2]);
+    line.vector_words(vectors[3]);
+    line.word(record::four_total(given.sums));
 }
 
 // The words that follow where four vectors were searched for.
@@ -146,11 +140,11 @@ fn further_words(line: &mut Text, given: Record, four: bool)
 
 // A macroblock's line, whatever its record holds.
 pub fn macroblock_line(column: usize, row: usize, given: Record, four: bool) -> Text
-    ensures { (result ≡ text_of (macroblock_line column row given four)) × (result.len ≤ 198) }
+    ensures { (result ≡ macroblock_line column row given four) × (length result ≤ 198) }
 {
-    let mut line = write::empty();
+    let mut line = Text::new();
     macroblock_words(&mut line, column, row, given);
     further_words(&mut line, given, four);
-    write::push(&mut line, b'\n');
+    line.push_all(b"\n");
     line
 }

@@ -1,82 +1,91 @@
-// A line that grows byte by byte, word by word, where it lies: a byte is written and the rest is not copied for it.
-ghost use Rattle.std.specs.Prelude.{◌≡◌, [], ◌∷◌};
+// A line that grows word by word, where it lies: its bytes stand in itself, and are not copied for a word more.
+ghost use Rattle.std.specs.Prelude.{◌≡◌, [], ◌∷◌, ◌≤◌, length};
 ghost use Rattle.clip.specs.Decimal.{decimal, decimal_z};
-ghost use Rattle.clip.specs.ToldPush.{no_text, pushed, pushes};
+ghost use Rattle.clip.specs.ToldPush.{pushes};
 ghost use Rattle.clip.specs.Line.{spaced, vector_words};
 
-use crate::Text;
+use arrayvec::ArrayVec;
+use itoa::Buffer;
 use record::MotionVector;
+use std::marker::Model;
 
-pub fn empty() -> Text
-    ensures { result ≡ no_text }
-{
-    Text {
-        bytes: [0; 198],
-        len: 0,
+// The bytes of a line, which contracts see as their list. No line is longer (proofs/Room.antt).
+#[derive(Drop)]
+pub struct Text {
+    bytes: ArrayVec<u8, 198>,
+}
+
+impl Model for Text {
+    ghost use Rattle.std.specs.Prelude.{List, ℕ};
+
+    ghost Value = { List ℕ };
+
+    ghost view = { λ t. t.bytes.items };
+}
+
+impl Text {
+    pub(crate) fn new() -> Text
+        ensures { result ≡ [] }
+    {
+        Text {
+            bytes: ArrayVec::new(),
+        }
     }
-}
 
-// One byte more, where there is room.
-#[tactic(auto, unfolding(crate::specs::ToldPush::pushed))]
-pub fn push(line: &mut Text, b: u8)
-    ensures { line.new ≡ pushed line.old b }
-{
-    if line.len < 198 {
-        line.bytes[line.len] = b;
-        line.len += 1;
+    pub fn as_bytes(&self) -> &[u8]
+        ensures bytes { result.now ≡ self.now }
+        ensures short { length result.now ≤ 198 }
+    {
+        self.bytes.as_slice()
     }
-}
 
-#[tactic(auto, using(crate::proofs::Texts::pushes_more), unfolding(crate::specs::ToldPush::pushes))]
-pub fn push_all(line: &mut Text, s: &[u8])
-    ensures { line.new ≡ pushes line.old s.now }
-{
-    for b in s {
-        push(line, *b);
+    // As many bytes more as there is room for.
+    #[tactic(auto, using(crate::proofs::Texts::room_for))]
+    pub(crate) fn push_all(&mut self, s: &[u8])
+        ensures { self.new ≡ pushes self.old s.now }
+    {
+        let n = s.len().min(self.bytes.remaining_capacity());
+        let _ = self.bytes.try_extend_from_slice(&s[..n]);
     }
-}
 
-// The digits of n: those of a tenth of it, and its last.
-#[tactic(auto, using(crate::proofs::Texts::digit_alone, crate::proofs::Texts::digit_more))]
-pub fn number(line: &mut Text, n: u64)
-    ensures { line.new ≡ pushes line.old (decimal n) }
-{
-    if n >= 10 {
-        number(line, n / 10);
+    #[tactic(auto, using(crate::proofs::Printed::printed_is))]
+    pub(crate) fn number(&mut self, n: u64)
+        ensures { self.new ≡ pushes self.old (decimal n) }
+    {
+        let mut digits = Buffer::new();
+        self.push_all(digits.format(n).as_bytes());
     }
-    push(line, b'0' + (n % 10) as u8);
-}
 
-fn signed(line: &mut Text, x: i32)
-    ensures { line.new ≡ pushes line.old (decimal_z x) }
-{
-    if x < 0 {
-        push(line, b'-');
+    #[tactic(auto, using(crate::proofs::Printed::signed_is))]
+    fn signed(&mut self, x: i32)
+        ensures { self.new ≡ pushes self.old (decimal_z x) }
+    {
+        let mut digits = Buffer::new();
+        self.push_all(digits.format(x).as_bytes());
     }
-    number(line, u64::from(x.unsigned_abs()));
-}
 
-#[tactic(auto, using(crate::proofs::Lines::word_is_lem))]
-pub fn word(line: &mut Text, n: u64)
-    ensures { line.new ≡ pushes line.old (spaced (decimal n ∷ [])) }
-{
-    push(line, b' ');
-    number(line, n);
-}
+    #[tactic(auto, using(crate::proofs::Lines::word_is_lem))]
+    pub(crate) fn word(&mut self, n: u64)
+        ensures { self.new ≡ pushes self.old (spaced (decimal n ∷ [])) }
+    {
+        self.push_all(b" ");
+        self.number(n);
+    }
 
-#[tactic(auto, using(crate::proofs::Lines::word_is_lem))]
-fn signed_word(line: &mut Text, x: i32)
-    ensures { line.new ≡ pushes line.old (spaced (decimal_z x ∷ [])) }
-{
-    push(line, b' ');
-    signed(line, x);
-}
+    #[tactic(auto, using(crate::proofs::Lines::word_is_lem))]
+    fn signed_word(&mut self, x: i32)
+        ensures { self.new ≡ pushes self.old (spaced (decimal_z x ∷ [])) }
+    {
+        self.push_all(b" ");
+        self.signed(x);
+    }
 
-// Horizontal, then vertical.
-#[tactic(auto, using(crate::proofs::Lines::spaced_two))]
-pub fn vector_words(line: &mut Text, v: MotionVector)
-    ensures { line.new ≡ pushes line.old (spaced (vector_words v)) }
-{
-    signed_word(line, v.x);
-    signed_word(line, v.y);
+    // Horizontal, then vertical.
+    #[tactic(auto, using(crate::proofs::Lines::spaced_two))]
+    pub(crate) fn vector_words(&mut self, v: MotionVector)
+        ensures { self.new ≡ pushes self.old (spaced (vector_words v)) }
+    {
+        self.signed_word(v.x);
+        self.signed_word(v.y);
+    }
 }

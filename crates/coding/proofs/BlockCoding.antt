@@ -2,12 +2,10 @@
 use Prim.Native.Nat.{ℕ, ◌<◌}
 use mathlib.Core.Bool.{true}
 use mathlib.Core.List.{List}
-use mathlib.Core.Path.{◌≡◌, ap, ◌∙◌}
+use mathlib.Core.Path.{◌≡◌}
 use lib.IntN.{ℤ, pos, negsuc}
 use lib.ListN.{length, get_or}
-use Rattle.std.specs.Prelude.{Result, Ok}
-use Rattle.refusal.specs.declared.Refusal.{Refusal}
-use Rattle.refusal.specs.Reply.{Reply, answer}
+use Rattle.std.specs.Prelude.{Ok}
 use Rattle.refusal.specs.Test.{in_range}
 use Rattle.fdct.specs.Block.{coefficients}
 use Rattle.fdct.specs.Reply.{dct_reply}
@@ -16,8 +14,7 @@ use Rattle.fdct.proofs.Ready.{dct_ready}
 use Rattle.quantise.specs.Block.{quantise_reply}
 use Rattle.quantise.proofs.Accepted.{quantise_ready}
 use Rattle.quantise.proofs.Ranges.{levels_at_lem}
-use Rattle.scan.specs.Event.{events_of}
-use Rattle.scan.specs.Reply.{scan_reply, events_reply, events_answer}
+use Rattle.scan.specs.Reply.{scan_reply, events_reply}
 use Rattle.scan.proofs.Accepted.{scan_ready, events_ready}
 use Rattle.scan.proofs.Grids.{scanned_each}
 use Rattle.coding.specs.Coding.{Quantising, quantised, in_scan}
@@ -47,8 +44,3 @@ module _ (by : Quantising) (set : Quantisable by) (block : List ℤ) where
 
   pub events_done : (a b c : ℕ) → a ≡ 64 → b ≡ 64 → c ≡ 64 → events_reply (in_scan by block) a b c ≡ Ok tt
   events_done = events_ready (in_scan by block) (scan_length by block) scan_in
-
--- what events answer where they are not refused
-pub events_are : (l : List ℤ) (a b c : ℕ) (r : Result ℕ Refusal) → r ≡ events_answer (events_reply l a b c) l
-    → events_reply l a b c ≡ Ok tt → r ≡ Ok (length (events_of l))
-events_are l a b c r e d = e ∙ ap (λ (x : Reply). answer x (length (events_of l))) d

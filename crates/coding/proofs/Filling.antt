@@ -1,31 +1,16 @@
 -- Six blocks coded one after the other, each into its own part of the areas: what holds after b of them. Assumes nothing.
 use Prim.Native.Nat.{ℕ, ◌+◌, ◌-◌, ◌*◌, ◌≤◌, ◌<◌}
 use native.Mathlib.Omega.{arith}
-use mathlib.Core.Bool.{true}
 use mathlib.Core.List.{List, ◌++◌}
 use mathlib.Core.Path.{◌≡◌, sym, ap, ◌∙◌}
-use lib.IntN.{ℤ, pos, negsuc}
-use lib.ListN.{length, get_or, take, drop, set, get_or-eq_default}
+use lib.IntN.{ℤ}
+use lib.ListN.{length, take, drop, set}
 use Rattle.basis.specs.Lists.{rows}
-use Rattle.basis.proofs.Case.{either}
 use Rattle.basis.proofs.Lists.{filled, filled_none, filled_set, filled_all, laid, laid_none, laid_put, laid_end, length_laid}
-use Rattle.basis.proofs.Slices.{part_is, part_at}
-use Rattle.refusal.specs.Test.{in_range}
+use Rattle.basis.proofs.Slices.{part_is}
 use Rattle.reader.specs.Handed.{Areas, areas, part_of}
 use Rattle.coding.specs.Coding.{Quantising, count_of, block_areas, areas_of, counts_of}
-use Rattle.coding.specs.Residual.{ResidualRange}
 use Rattle.coding.proofs.Levels.{same_areas, lasts_long, runs_long, values_long}
-
--- a part of a residual, as the code takes it; past the residual's end there is nothing but 0
-pub part_in_range : (l : List ℤ) → length l ≡ 384 → ResidualRange 384 l → (from : ℕ) → ResidualRange 64 (take (from + 64 - from) (drop from l))
-part_in_range l long s from =
-    record { at = λ i k. ap (in_range (negsuc 254) (pos 255)) (part_at l from 64 i (pos 0) k) ∙ anywhere (from + i) }
-  where
-    anywhere : (n : ℕ) → in_range (negsuc 254) (pos 255) (get_or l n (pos 0)) ≡ true
-    anywhere n =
-        either _ 384 n
-        (λ past. ap (in_range (negsuc 254) (pos 255)) (get_or-eq_default l (pos 0) {n = n} (omega arith)))
-        (λ in-it. s.at n in-it)
 
 -- an area that has its first b blocks
 pub record LaidSoFar {X : Type 0} (r : ℕ → List X) (was is : List X) (b : ℕ) : Type 0 where

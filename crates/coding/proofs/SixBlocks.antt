@@ -1,15 +1,15 @@
 -- Six blocks of a residual: which samples a block is the difference of, and that all six are small where each is. Assumes nothing.
-use Prim.Native.Nat.{ℕ, ◌+◌, ◌*◌, ◌/◌, ◌%◌, ◌≤◌, ◌<◌}
+use Prim.Native.Nat.{ℕ, ◌+◌, ◌*◌, ◌/◌, ◌%◌, ◌<◌}
 use native.Mathlib.Omega.{arith}
-use mathlib.Core.Bool.{true, false, cond}
+use mathlib.Core.Bool.{true, cond}
 use mathlib.Core.List.{List}
 use mathlib.Core.Path.{◌≡◌, sym, ap, ap₂, ◌∙◌}
-use borrow.Author.Tests.{lt-ltb, le-ltb, eq-eqb, ne_eqb}
+use borrow.Author.Tests.{lt-ltb}
 use lib.Dec.{eqb, ltb}
 use lib.IntN.{ℤ, pos, negsuc, ◌-ℤ◌}
 use lib.ListN.{length, get_or}
 use Rattle.basis.specs.Lists.{tabulate, rows}
-use Rattle.basis.proofs.Case.{then, else}
+use Rattle.basis.proofs.Case.{then}
 use Rattle.basis.proofs.Lists.{length-tabulate, tabulate_cong, get_or-rows}
 use Rattle.refusal.specs.Test.{in_range}
 use Rattle.plane.specs.Source.{eight_of}
@@ -33,9 +33,6 @@ luma_place l b k h =
     eight_at l b k h
     ∙ ap (λ (n : ℕ). get_or l n 0) (let e : (8 * (b / 2) + k / 8) * 16 + (8 * (b % 2) + k % 8) ≡ 128 * (b / 2) + 8 * (b % 2) + k / 8 * 16 + k % 8 = omega arith in e)
 
-chroma_place : (l : List ℕ) (k : ℕ) → k < 64 → get_or l k 0 ≡ get_or l (0 + k / 8 * 8 + k % 8) 0
-chroma_place l k h = ap (λ (n : ℕ). get_or l n 0) (let e : k ≡ 0 + k / 8 * 8 + k % 8 = omega arith in e)
-
 module _ (s p : Samples) (b : ℕ) where
   pub luma_block : ltb b 4 ≡ true → block_residual (eight_of s.y b) (eight_of p.y b) ≡ block_residual (samples_of s b) (samples_of p b)
   luma_block e =
@@ -47,26 +44,6 @@ module _ (s p : Samples) (b : ℕ) where
   luma_part h =
       part_is s.y p.y (eight_of s.y b) (eight_of p.y b) 16 (128 * (b / 2) + 8 * (b % 2)) (luma_place s.y b) (luma_place p.y b)
       ∙ luma_block (lt-ltb b 4 h)
-
-  chroma : (x : Samples) → 4 ≤ b → samples_of x b ≡ cond (eqb b 4) x.cb x.cr
-  chroma x h = else (ltb b 4) (eight_of x.y b) (cond (eqb b 4) x.cb x.cr) (le-ltb b 4 h)
-
-  pub blue_block : b ≡ 4 → tabulate 64 (difference_at 8 0 s.cb p.cb) ≡ block_residual (samples_of s b) (samples_of p b)
-  blue_block e =
-      part_is s.cb p.cb s.cb p.cb 8 0 (chroma_place s.cb) (chroma_place p.cb)
-      ∙ sym
-      (ap₂ block_residual
-      (chroma s (omega arith) ∙ then (eqb b 4) s.cb s.cr (eq-eqb b 4 e))
-      (chroma p (omega arith) ∙ then (eqb b 4) p.cb p.cr (eq-eqb b 4 e)))
-
-  pub red_block : 4 < b → tabulate 64 (difference_at 8 0 s.cr p.cr) ≡ block_residual (samples_of s b) (samples_of p b)
-  red_block h =
-      let other : eqb b 4 ≡ false = ne_eqb b 4 (λ e. omega arith) in
-      part_is s.cr p.cr s.cr p.cr 8 0 (chroma_place s.cr) (chroma_place p.cr)
-      ∙ sym
-      (ap₂ block_residual
-      (chroma s (omega arith) ∙ else (eqb b 4) s.cb s.cr other)
-      (chroma p (omega arith) ∙ else (eqb b 4) p.cb p.cr other))
 
 -- block b of a residual
 abbrev pub residual_at : Samples → Samples → ℕ → List ℤ

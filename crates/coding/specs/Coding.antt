@@ -1,13 +1,15 @@
 -- How a residual of six blocks is coded (`quantise_inter_block`, `quantise_inter_residual`, `inter_cbp`): each block is transformed,
 -- quantised, put into scan order and made events of; the patterns say which blocks have an event.
-use Rattle.std.specs.Prelude.{ℕ, ◌+◌, ◌*◌, Bool, cond, List, eqb, ℤ, length, get_or}
+use Rattle.std.specs.Prelude.{ℕ, ◌+◌, ◌*◌, ◌≡◌, Bool, cond, List, eqb, ℤ, length, get_or}
 use Rattle.basis.specs.Lists.{tabulate, rows}
 use Rattle.fdct.specs.Block.{coefficients}
 use Rattle.quantise.specs.Block.{block_levels}
 use Rattle.scan.specs.Grid.{grid_of, scanned}
 use Rattle.scan.specs.Event.{events_of, lasts_area, runs_area, levels_area}
 use Rattle.reader.specs.Handed.{Areas, areas, part_of}
+use Rattle.coding.specs.declared.EventAreas.{EventAreas}
 use Rattle.coding.specs.declared.Patterns.{Patterns}
+use Rattle.coding.specs.declared.Quantising as lent
 
 -- the coefficients of all six blocks: each block's transform
 unfoldable pub transformed : List ℤ → List ℤ
@@ -22,6 +24,20 @@ pub record Quantising : Type 0 where
 
 abbrev pub quantising_of : ℕ → Bool → List ℕ → ℕ → Quantising
 quantising_of q first weights scan = record { first = first; quantiser = q; weights = weights; scan = scan }
+
+-- with lent weights
+abbrev pub lent_quantising : lent.Quantising → Quantising
+lent_quantising by = quantising_of by.quantiser by.first_method by.weights.now by.scan
+
+-- what stands in lent areas
+abbrev pub lent_areas : EventAreas → Areas
+lent_areas a = areas a.lasts.now a.runs.now a.levels.now
+
+-- these are the areas that were lent, whatever stands in them
+pub record SameAreas (old new : EventAreas) : Type 0 where
+  pub lasts_same : new.lasts.ghost_name ≡ old.lasts.ghost_name
+  pub runs_same : new.runs.ghost_name ≡ old.runs.ghost_name
+  pub levels_same : new.levels.ghost_name ≡ old.levels.ghost_name
 
 module _ (by : Quantising) where
   -- a block's levels, by rows

@@ -23,6 +23,10 @@ residual_of source prediction = rows 6 (λ b. block_residual (samples_of source 
 abbrev pub source_of : List ℕ → List ℕ → List ℕ → SourceSize → MacroblockPlace → Samples
 source_of y cb cr size place = samples (source_luma y size place) (source_chroma cb size place) (source_chroma cr size place)
 
+-- of a picture's samples
+abbrev pub source_in : Samples → SourceSize → MacroblockPlace → Samples
+source_in s size place = source_of s.y s.cb s.cr size place
+
 -- the first n lie in -255..255, as differences of bytes do
 pub record ResidualRange (n : ℕ) (l : List ℤ) : Type 0 where
   pub at : (i : ℕ) → i < n → in_range (negsuc 254) (pos 255) (get_or l i (pos 0)) ≡ true

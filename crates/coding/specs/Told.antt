@@ -8,6 +8,7 @@ use Rattle.plane.specs.declared.SourceSize.{SourceSize}
 use Rattle.plane.specs.declared.MacroblockPlace.{MacroblockPlace}
 use Rattle.plane.specs.Source.{source_reply}
 use Rattle.plane.specs.Samples.{Samples}
+use Rattle.reader.specs.Handed.{Areas}
 use Rattle.coding.specs.Residual.{ResidualRange}
 use Rattle.coding.specs.Coding.{Quantising, bit}
 
@@ -47,8 +48,16 @@ pub record CodingAccepted (n : ℕ) (residual : List ℤ) (by : Quantising) (las
   pub runs_long : runs ≡ n
   pub levels_long : levels ≡ n
 
+-- the same of areas
+abbrev pub AreasAccepted : ℕ → List ℤ → Quantising → Areas → Type 0
+AreasAccepted n residual by a = CodingAccepted n residual by (length a.lasts) (length a.runs) (length a.levels)
+
 -- a macroblock of which a residual is made and not refused
 pub record ResidualAccepted (size : SourceSize) (y cb cr : ℕ) (place : MacroblockPlace) (p : Samples) (area : ℕ) : Type 0 where
   pub source : source_reply size y cb cr place ≡ Ok tt
   pub whole : Whole p
   pub long : area ≡ 384
+
+-- the same of samples
+abbrev pub SamplesAccepted : Samples → SourceSize → MacroblockPlace → Samples → ℕ → Type 0
+SamplesAccepted s size place p area = ResidualAccepted size (length s.y) (length s.cb) (length s.cr) place p area

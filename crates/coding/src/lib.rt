@@ -3,13 +3,12 @@
 
 ghost use Rattle.std.specs.Prelude.{◌≡◌, length};
 ghost use Rattle.refusal.specs.Reply.{done};
-ghost use Rattle.reader.specs.Handed.{areas};
-ghost use Rattle.plane.specs.Samples.{samples};
-ghost use Rattle.coding.specs.Residual.{source_of, residual_of, ResidualRange};
-ghost use Rattle.coding.specs.Coding.{quantising_of, block_areas, areas_of, patterns_of};
-ghost use Rattle.coding.specs.Reply.{residual_reply, coding_reply, block_events, residual_events};
+ghost use Rattle.plane.specs.Samples.{lent_samples};
+ghost use Rattle.coding.specs.Residual.{source_in, residual_of, ResidualRange};
+ghost use Rattle.coding.specs.Coding.{lent_quantising, lent_areas, SameAreas, block_areas, areas_of, patterns_of};
+ghost use Rattle.coding.specs.Reply.{samples_reply, areas_reply, block_events, residual_events};
 
-use plane::{MacroblockPlace, SourceSize};
+use plane::{MacroblockPlace, Samples, SourceSize};
 use refusal::{Refusal, Reply};
 
 mod events;
@@ -22,24 +21,46 @@ pub struct Patterns {
     pub chroma: u8,
 }
 
+// What levels and events are made by: the quantiser, the first method, if it is that, with its weights, and the scan.
+#[derive(Clone, Copy)]
+pub struct Quantising<'a> {
+    pub quantiser: u32,
+    pub first_method: bool,
+    pub weights: &'a [u8],
+    pub scan: u32,
+}
+
+// Events that are written: which is its block's last, how many zeros stand before each, and their levels; 64 of each to a block.
+#[derive(Drop)]
+pub struct EventAreas<'a> {
+    pub lasts: &'a mut [u8],
+    pub runs: &'a mut [u8],
+    pub levels: &'a mut [i32],
+}
+
 // 6, 7, 8, 12
 #[tactic(auto, unfolding(crate::specs::Reply::residual_reply))]
 fn residual_reply(
+    source: Samples<'_>,
     size: SourceSize,
-    y: usize,
-    cb: usize,
-    cr: usize,
     place: MacroblockPlace,
-    pred_y: usize,
-    pred_cb: usize,
-    pred_cr: usize,
+    prediction: Samples<'_>,
     area: usize,
 ) -> Reply
-    ensures { result ≡ residual_reply size y cb cr place pred_y pred_cb pred_cr area }
+    ensures { result ≡ samples_reply (lent_samples source.entry) size place (lent_samples prediction.entry) area }
 {
-    plane::source::source_reply(size, y, cb, cr, place)?;
+    plane::source::source_reply(
+        size,
+        source.y.len(),
+        source.cb.len(),
+        source.cr.len(),
+        place,
+    )?;
     refusal::require(
-        pred_y == 256 && pred_cb == 64 && pred_cr == 64 && area == 384,
+        prediction.y.len() == 256
+            && prediction.cb.len() == 64
+            && prediction.cr.len() == 64
+            && area == 384,
         Refusal::Length,
     )
 }
@@ -47,36 +68,19 @@ fn residual_reply(
 // Source less prediction, in six blocks of 64: 6, 7, 8, 12. Where it is done, all 384 lie in -255..255.
 #[tactic(auto, using(crate::proofs::Accepted::residual_accepted))]
 pub fn macroblock_residual(
-    y: &[u8],
-    cb: &[u8],
-    cr: &[u8],
+    source: Samples<'_>,
     size: SourceSize,
     place: MacroblockPlace,
-    pred_y: &[u8],
-    pred_cb: &[u8],
-    pred_cr: &[u8],
+    prediction: Samples<'_>,
     out: &mut [i32],
 ) -> Reply
-    ensures value { result ≡ residual_reply size
-        (length y.now) (length cb.now) (length cr.now) place
-        (length pred_y.now) (length pred_cb.now) (length pred_cr.now) (length out.old) }
-    ensures out_after { let source = source_of y.now cb.now cr.now size place in
-        let prediction = samples pred_y.now pred_cb.now pred_cr.now in
-        out.new ≡ done result (residual_of source prediction) out.old }
+    ensures value { result ≡ samples_reply (lent_samples source.entry) size place (lent_samples prediction.entry) (length out.old) }
+    ensures out_after { let from = source_in (lent_samples source.entry) size place in
+        out.new ≡ done result (residual_of from (lent_samples prediction.entry)) out.old }
     ensures residual_range { result ≡ Ok tt → ResidualRange 384 out.new }
 {
-    residual_reply(
-        size,
-        y.len(),
-        cb.len(),
-        cr.len(),
-        place,
-        pred_y.len(),
-        pred_cb.len(),
-        pred_cr.len(),
-        out.len(),
-    )?;
-    residual::macroblock_residual(y, cb, cr, size, place, pred_y, pred_cb, pred_cr, out);
+    residual_reply(source, size, place, prediction, out.len())?;
+    residual::macroblock_residual(source, size, place, prediction, out);
     Ok(())
 }
 
@@ -93,108 +97,52 @@ pub fn inter_cbp(counts: [u8; 6]) -> Patterns
 
 // 10, 11, 12, 13, 14 for a residual of n places.
 #[tactic(auto, unfolding(crate::specs::Reply::coding_reply))]
-fn coding_reply(
-    n: usize,
-    residual: &[i32],
-    quantiser: u32,
-    first_method: bool,
-    weights: &[u8],
-    scan: u32,
-    lasts: usize,
-    runs: usize,
-    levels: usize,
-) -> Reply
-    ensures { result ≡ coding_reply n residual.now (quantising_of quantiser first_method weights.now scan) lasts runs levels }
+fn coding_reply(n: usize, residual: &[i32], by: Quantising<'_>, out: &EventAreas<'_>) -> Reply
+    ensures { result ≡ areas_reply n residual.now (lent_quantising by.entry) (lent_areas out.now) }
 {
-    quantise::weight_reply(quantiser, first_method, weights)?;
+    quantise::weight_reply(by.quantiser, by.first_method, by.weights)?;
     refusal::require(
-        residual.len() == n && weights.len() == 64 && lasts == n && runs == n && levels == n,
+        residual.len() == n
+            && by.weights.len() == 64
+            && out.lasts.len() == n
+            && out.runs.len() == n
+            && out.levels.len() == n,
         Refusal::Length,
     )?;
     refusal::require(refusal::all_in_range(-255, 255, residual), Refusal::Range)?;
-    refusal::require((0..=2).contains(&scan), Refusal::Choice)
+    refusal::require((0..=2).contains(&by.scan), Refusal::Choice)
 }
 
 // The events of a block's residual: 10, 11, 12, 13, 14.
 #[tactic(auto, using(crate::proofs::Accepted::coding_accepted))]
 pub fn quantise_inter_block(
     residual: &[i32],
-    quantiser: u32,
-    first_method: bool,
-    weights: &[u8],
-    scan: u32,
-    lasts: &mut [u8],
-    runs: &mut [u8],
-    levels: &mut [i32],
+    by: Quantising<'_>,
+    out: &mut EventAreas<'_>,
 ) -> Result<u8, Refusal>
-    ensures { let by = quantising_of quantiser first_method weights.now scan in
-        let block = residual.now in
-        let reply = coding_reply 64 block by (length lasts.old) (length runs.old) (length levels.old) in
-        let old = areas lasts.old runs.old levels.old in
-        let new = areas lasts.new runs.new levels.new in
-        (result ≡ block_events reply by block) × (new ≡ done result (block_areas by block) old) }
+    ensures value { let reply = areas_reply 64 residual.now (lent_quantising by.entry) (lent_areas out.old) in
+        result ≡ block_events reply (lent_quantising by.entry) residual.now }
+    ensures out_after { lent_areas out.new
+        ≡ done result (block_areas (lent_quantising by.entry) residual.now) (lent_areas out.old) }
+    ensures same_areas { SameAreas out.old out.new }
 {
-    coding_reply(
-        64,
-        residual,
-        quantiser,
-        first_method,
-        weights,
-        scan,
-        lasts.len(),
-        runs.len(),
-        levels.len(),
-    )?;
-    Ok(events::quantise_inter_block(
-        residual,
-        quantiser,
-        first_method,
-        weights,
-        scan,
-        lasts,
-        runs,
-        levels,
-    ))
+    coding_reply(64, residual, by, out)?;
+    Ok(events::quantise_inter_block(residual, by, out.lasts, out.runs, out.levels))
 }
 
 // The events of all six blocks, each in its own area: 10, 11, 12, 13, 14.
 #[tactic(auto, using(crate::proofs::Accepted::coding_accepted))]
 pub fn quantise_inter_residual(
     residual: &[i32],
-    quantiser: u32,
-    first_method: bool,
-    weights: &[u8],
-    scan: u32,
-    lasts: &mut [u8],
-    runs: &mut [u8],
-    levels: &mut [i32],
+    by: Quantising<'_>,
+    out: &mut EventAreas<'_>,
 ) -> Result<[u8; 6], Refusal>
-    ensures { let by = quantising_of quantiser first_method weights.now scan in
-        let all = residual.now in
-        let reply = coding_reply 384 all by (length lasts.old) (length runs.old) (length levels.old) in
-        let old = areas lasts.old runs.old levels.old in
-        let new = areas lasts.new runs.new levels.new in
-        (result ≡ residual_events reply by all) × (new ≡ done result (areas_of by all) old) }
+    ensures value { let reply = areas_reply 384 residual.now (lent_quantising by.entry) (lent_areas out.old) in
+        result ≡ residual_events reply (lent_quantising by.entry) residual.now }
+    ensures out_after { lent_areas out.new
+        ≡ done result (areas_of (lent_quantising by.entry) residual.now) (lent_areas out.old) }
+    ensures same_areas { SameAreas out.old out.new }
 {
-    coding_reply(
-        384,
-        residual,
-        quantiser,
-        first_method,
-        weights,
-        scan,
-        lasts.len(),
-        runs.len(),
-        levels.len(),
-    )?;
-    Ok(events::quantise_inter_residual(
-        residual,
-        quantiser,
-        first_method,
-        weights,
-        scan,
-        lasts,
-        runs,
-        levels,
-    ))
+    coding_reply(384, residual, by, out)?;
+    Ok(events::quantise_inter_residual(residual, by, out))
 }

@@ -1,10 +1,8 @@
 -- What turns a transform back (rules F12, F13, O5). A residual of another length than 64 has
 -- no answer that an output area could be as long as, so it is 12 too.
-use Rattle.std.specs.Prelude.{ℕ, ◌&&◌, List, eqb, ℤ, pos, negsuc, length}
+use Rattle.std.specs.Prelude.{ℕ, ◌&&◌, List, eqb, ℤ, pos, negsuc, length, Ok}
 use Rattle.refusal.specs.declared.Refusal.TheVariants.{Length, Range}
-use Rattle.refusal.specs.Reply.{Reply}
-use Rattle.std.specs.Prelude.{Ok}
-use Rattle.refusal.specs.Reply.{unless, and_then}
+use Rattle.refusal.specs.Reply.{Reply, unless, and_then}
 use Rattle.refusal.specs.Test.{all_in_range}
 
 -- of a residual, and an output area of n places: lengths of 64, then each residual in -255..255

@@ -104,6 +104,9 @@ module _ (side : ℕ) (source patch : List ℕ) (at : Lines) (r : Row) (discount
   unfolding row_of
   row_all k b e = subst (λ (n : ℕ). RowKept n b) e
 
+-- what the search of a row cites
+pub ruleset row_steps = (row_none, row_more, row_all)
+
 -- on a strip that was copied from its first place on
 pub strip_kept : (side : ℕ) (source strip : List ℕ) (p : Plane) (corner : Point) (r : Row) (discount : ℕ) (s b : Scored)
     → strip ≡ copied_block p (moved_to corner r.from) (side + r.step * r.count) side
@@ -183,6 +186,9 @@ module _ (side : ℕ) (source patch : List ℕ) (q : Square) (width discount : �
       → b ≡ kept_of (copied_cost discount (block_in side source p corner)) s (square_of q)
   unfolding square_of
   square_all = rows_all side source patch q.from width width discount (square_row q) s q.count
+
+-- what the search of a square cites
+pub ruleset square_steps = (square_none, square_more, square_all)
 
 -- ---- the square of ±8
 

@@ -77,16 +77,7 @@ patch_room w h side r c a b k =
     let m : r + (side - 1) < h = omega arith in
     omega (arith, row_before w m, add-mul r (side - 1) w)
 
--- place k of a strip of `count` places, `step` apart, lies within it
-pub strip_room : (side step count k : ℕ) → 1 ≤ side → k < count
-    → 0 + step * k + (side - 1) * (side + step * count) + side ≤ (side + step * count) * side
-strip_room side step count k a h =
-    let w = side + step * count in
-    let l : k ≤ count = omega arith in
-    let inside : step * k + side ≤ w = omega (arith, mul-le-mul_left step l) in
-    omega (arith, patch_room w side side 0 (step * k) a (omega arith) inside, mul_comm side w)
-
--- and the columns that its places meet
+-- the columns that the places of a strip meet lie within it: `count` places, `step` apart
 pub strip_columns : (side step count : ℕ) → step * (count - 1) + side ≤ side + step * count
 strip_columns side step count =
     let l : count - 1 ≤ count = omega arith in

@@ -1,22 +1,13 @@
 -- Rows of a block's sum, for either side. Assumes nothing.
-use Prim.Native.Nat.{ℕ, ◌+◌, ◌-◌, ◌*◌, ◌≤◌, ◌<◌}
-use native.Mathlib.Nat.{mul-le-mul_right}
-use native.Mathlib.Omega.{arith}
+use Prim.Native.Nat.{ℕ, ◌+◌, ◌-◌, ◌*◌}
 use mathlib.Core.List.{List}
 use mathlib.Core.Path.{◌≡◌, ap₂}
-use lib.ListN.{length, get_or, take, drop}
+use lib.ListN.{get_or, take, drop}
 use Rattle.basis.specs.Sums.{sum_to, abs_diff}
 use Rattle.basis.proofs.Slices.{part_at}
 use Rattle.basis.proofs.Sums.{Summed, sum_to_cong, sum_to_pairs}
 use Rattle.full_search.specs.declared.Lines.{Lines}
-use Rattle.full_search.specs.ToldPatch.{line_at, LinesFit, RowsFit, row_sum, lines_sum}
-
--- row j of a block lies within the source and within the window, where the block does
-pub rows_fit : (side j apart : ℕ) (at : Lines) (source window : List ℕ) → j < side → RowsFit side apart source × LinesFit side at window
-    → (j * apart + side ≤ length source) × (line_at at j + side ≤ length window)
-rows_fit side j apart at source window h f =
-    let k : j ≤ side - 1 = omega arith in
-    (omega (arith, f.0, mul-le-mul_right apart k), omega (arith, f.1, mul-le-mul_right at.stride k))
+use Rattle.full_search.specs.ToldPatch.{line_at, row_sum, lines_sum}
 
 -- the first i differences of two rows are summed
 abbrev pub RowSummed : ℕ → List ℕ → List ℕ → ℕ → ℕ → Type 0

@@ -28,7 +28,8 @@ use Rattle.full_search.specs.Block.{differences, row_by_row, block_of}
 use Rattle.full_search.specs.Won.{window_reply, placed_reply, square_reply, sixteen_reply, seed_size_reply, eight_reply, sum_reply}
 use Rattle.full_search.specs.Won.{sixteen_best, eight_best, sixteen_won, eight_won, sum_of}
 use Rattle.full_search.specs.Told.{Within, Inside, Ready}
-use Rattle.full_search.specs.ToldKept.{SeedReady}
+use Rattle.full_search.proofs.EqualSums.{listed_sum}
+use Rattle.full_search.proofs.Sides.{listed_fits, source_fits}
 
 -- ---- corners and seeds
 
@@ -156,7 +157,7 @@ module _ (source samples : List ℕ) (t : Target) where
 
     -- one of four
     module _ (seed : MotionVector) where
-      pub eight_is : eight_reply (length source) (length samples) t w seed ≡ Ok tt → SeedReady source samples t seed
+      pub eight_is : eight_reply (length source) (length samples) t w seed ≡ Ok tt → Ready source samples t × (t.side ≡ 8) × Within 2048 seed
       unfolding eight_reply
       eight_is e =
           let place = placed_reply (length samples) t in
@@ -164,12 +165,11 @@ module _ (source samples : List ℕ) (t : Target) where
           let second = and_then (seed_size_reply seed) square in
           let k = then_done (window_reply w) (and_then place second) e in
           let l = then_done place second k in
-          let last = then_done (seed_size_reply seed) square l in
-          record {
-            ready = ready_is 8 refl (first_done place second k) last;
-            eight = (square_is 8 (length source) t last).1;
-            seed_small = seed_small seed (seed_is seed (first_done (seed_size_reply seed) square l));
-          }
+          let last = then_done (seed_size_reply seed) square l in (
+            ready_is 8 refl (first_done place second k) last,
+            (square_is 8 (length source) t last).1,
+            seed_small seed (seed_is seed (first_done (seed_size_reply seed) square l)),
+          )
 
       pub eight-done : Ready source samples t → t.side ≡ 8 → w ≤ 1023 → vector_in_range seed ≡ true
           → eight_reply (length source) (length samples) t w seed ≡ Ok tt
@@ -209,3 +209,6 @@ pub block_sum_is : (source predicted : List ℕ) (side : ℕ) → is_side side �
 unfolding sum_of
 block_sum_is source predicted side h e f =
     ap (λ (r : Reply). done r (differences side (row_by_row side source) (row_by_row side predicted)) 0) (sum_done (length source) (length predicted) side h e f)
+
+-- what the sum of two blocks cites
+pub ruleset block_sums = (sum_is, listed_sum, listed_fits, source_fits)

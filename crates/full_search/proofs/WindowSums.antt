@@ -19,7 +19,7 @@ use Rattle.plane.proofs.Ready.{length_is, length-done}
 use Rattle.full_search.specs.Block.{differences, row_by_row}
 use Rattle.full_search.specs.ToldPatch.{lines_from, lines_sum}
 use Rattle.full_search.specs.Window.{square_of, window_sum_reply, window_at, window_sum_of}
-use Rattle.full_search.proofs.Sides.{side_least}
+use Rattle.full_search.proofs.Sides.{side_least, source_fits}
 
 -- where the block's last sample stands, from its first on
 abbrev last_of : ℕ → ℕ → ℕ
@@ -63,3 +63,6 @@ unfolding window_sum_of
 window_sum_is source window at stride side h e f =
     ap (λ (r : Reply). done r (differences side (row_by_row side source) (window_at window at stride)) 0)
     (window-done (length source) (length window) at stride side h e f)
+
+-- what the sum against a block in a window cites
+pub ruleset window_sums = (window_is, standing_sum, source_fits)

@@ -5,6 +5,7 @@ use Rattle.record.specs.declared.MotionVector.{MotionVector}
 use Rattle.plane.specs.declared.Point.{Point}
 use Rattle.plane.specs.Plane.{Plane, plane_of, copied}
 use Rattle.plane.specs.Corner.{block_corner}
+use Rattle.full_search.specs.declared.Sought.{Sought}
 use Rattle.full_search.specs.declared.Target.{Target}
 
 -- f and g give a block's sample at column i and row j
@@ -38,6 +39,10 @@ block_in side source p corner = record { side = side; source = row_by_row side s
 
 abbrev pub block_of : List ℕ → List ℕ → Target → Block
 block_of source samples t = block_in t.side source (plane_of samples t.geometry) t.corner
+
+-- the block that is sought in lent samples
+abbrev pub lent_block : Sought → Block
+lent_block s = block_of s.source.now s.reference.now s.target
 
 -- its sum at a displacement by whole samples, from the reference's own samples
 unfoldable pub copied_sum : Block → MotionVector → ℕ

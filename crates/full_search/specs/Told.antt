@@ -1,7 +1,6 @@
 -- Told, not believed: what private functions are told of displacements, blocks and references.
-use Rattle.std.specs.Prelude.{ℕ, ◌*◌, ◌≤◌, true, List, ◌≡◌, ◌+ℤ◌, length}
+use Rattle.std.specs.Prelude.{ℕ, ◌*◌, ◌≤◌, true, List, ◌≡◌, ◌+ℤ◌, length, Ok}
 use Rattle.basis.specs.Parts.{above, below}
-use Rattle.std.specs.Prelude.{Ok}
 use Rattle.record.specs.declared.MotionVector.{MotionVector}
 use Rattle.plane.specs.declared.Point.{Point}
 use Rattle.plane.specs.Reference.{reference_reply, is_side}

@@ -4,14 +4,15 @@ use mathlib.Core.List.{List, foldl}
 use Rattle.basis.specs.Lists.{rows}
 use Rattle.record.specs.declared.MotionVector.{MotionVector}
 use Rattle.record.specs.Zero.{zero_vector}
+use Rattle.full_search.specs.declared.judged.Judged.{Judged}
 use Rattle.full_search.specs.declared.Row.{Row}
 use Rattle.full_search.specs.declared.Scored.{Scored}
 use Rattle.full_search.specs.declared.Square.{Square}
 use Rattle.full_search.specs.declared.Target.{Target}
-use Rattle.full_search.specs.Block.{Block, block_of, copied_sum}
+use Rattle.full_search.specs.Block.{Block, block_of, lent_block, copied_sum}
 use Rattle.full_search.specs.Costs.{discounted, zero_discount, at_cost, consider}
 use Rattle.full_search.specs.Places.{down, row_of, lattice}
-use Rattle.full_search.specs.Told.{Within, Ready}
+use Rattle.full_search.specs.Told.{Within}
 
 -- what a search over l keeps that begins with the best so far
 abbrev pub kept_of : (MotionVector → ℕ) → Scored → List MotionVector → Scored
@@ -33,6 +34,18 @@ copied_cost discount b = discounted discount (copied_sum b)
 abbrev pub target_cost : ℕ → List ℕ → List ℕ → Target → MotionVector → ℕ
 target_cost discount source samples t = copied_cost discount (block_of source samples t)
 
+-- the block that is searched for
+abbrev pub judged_block : Judged → Block
+judged_block s = lent_block s.sought
+
+-- what a displacement of it costs in the search for one vector
+abbrev pub sixteen_cost : Judged → MotionVector → ℕ
+sixteen_cost s = let b = s.sought in target_cost zero_discount b.source.now b.reference.now b.target
+
+-- and in that for one of four
+abbrev pub eight_cost : Judged → MotionVector → ℕ
+eight_cost s = copied_sum (judged_block s)
+
 -- the lattice of a target's place
 abbrev pub target_lattice : ℕ → Target → List MotionVector
 target_lattice w t = lattice w t.corner t.geometry.width t.geometry.height
@@ -52,50 +65,39 @@ NoMoreThanZero cost s = s.cost ≤ cost zero_vector
 -- ---- what is needed to search on
 
 -- over a row, on a strip of the reference
-pub record StripReady (source samples : List ℕ) (t : Target) (strip : List ℕ) (r : Row) (discount : ℕ) (best : Scored) : Type 0 where
-  pub ready : Ready source samples t
+pub record StripReady (s : Judged) (strip : List ℕ) (r : Row) (best : Scored) : Type 0 where
   pub from_small : Within 4096 r.from
   pub run_small : r.step * r.count ≤ 4096
-  pub strip_fits : length strip ≡ (t.side + r.step * r.count) * t.side
-  pub best_small : NoMoreThanZero (target_cost discount source samples t) best
+  pub strip_fits : length strip ≡ (s.sought.target.side + r.step * r.count) * s.sought.target.side
+  pub best_small : NoMoreThanZero (sixteen_cost s) best
 
 -- over a square, on a patch of the reference
-pub record SquareReady (source samples : List ℕ) (t : Target) (patch : List ℕ) (q : Square) (discount : ℕ) (best : Scored) : Type 0 where
-  pub ready : Ready source samples t
+pub record SquareReady (s : Judged) (patch : List ℕ) (q : Square) (best : Scored) : Type 0 where
   pub from_small : Within 4000 q.from
   pub some : 1 ≤ q.count
   pub few : q.count ≤ 17
-  pub patch_fits : length patch ≡ (t.side + q.count - 1) * (t.side + q.count - 1)
-  pub best_small : NoMoreThanZero (target_cost discount source samples t) best
+  pub patch_fits : length patch ≡ (s.sought.target.side + q.count - 1) * (s.sought.target.side + q.count - 1)
+  pub best_small : NoMoreThanZero (eight_cost s) best
 
 -- beyond ±8, in the search for one vector
-pub record WideReady (source samples : List ℕ) (t : Target) (w : ℕ) (best : Scored) : Type 0 where
-  pub ready : Ready source samples t
-  pub sixteen : t.side ≡ 16
+pub record WideReady (s : Judged) (w : ℕ) (best : Scored) : Type 0 where
+  pub sixteen : s.sought.target.side ≡ 16
   pub window_small : w ≤ 1023
-  pub best_small : NoMoreThanZero (target_cost zero_discount source samples t) best
+  pub best_small : NoMoreThanZero (sixteen_cost s) best
 
 -- over at most four rows of places, on a band of the reference
-pub record BandReady (source samples : List ℕ) (t : Target) (band : List ℕ) (first : Row) (n : ℕ) (best : Scored) : Type 0 where
-  pub ready : Ready source samples t
-  pub sixteen : t.side ≡ 16
+pub record BandReady (s : Judged) (band : List ℕ) (first : Row) (n : ℕ) (best : Scored) : Type 0 where
+  pub sixteen : s.sought.target.side ≡ 16
   pub from_small : Within 4000 first.from
   pub run_small : first.step * first.count ≤ 2048
   pub few : n ≤ 4
   pub band_fits : length band ≡ (16 + first.step * first.count) * 28
-  pub best_small : NoMoreThanZero (target_cost zero_discount source samples t) best
+  pub best_small : NoMoreThanZero (sixteen_cost s) best
 
 -- over the lattice's rows, each of which goes at most `most` samples far
-pub record LatticeReady (source samples : List ℕ) (t : Target) (first : Row) (lines most : ℕ) (best : Scored) : Type 0 where
-  pub ready : Ready source samples t
-  pub sixteen : t.side ≡ 16
+pub record LatticeReady (s : Judged) (first : Row) (lines most : ℕ) (best : Scored) : Type 0 where
+  pub sixteen : s.sought.target.side ≡ 16
   pub from_small : Within 1023 first.from
   pub run_small : first.step * first.count ≤ most
   pub few : lines ≤ 512
-  pub best_small : NoMoreThanZero (target_cost zero_discount source samples t) best
-
--- around a seed, in the search for one of four
-pub record SeedReady (source samples : List ℕ) (t : Target) (seed : MotionVector) : Type 0 where
-  pub ready : Ready source samples t
-  pub eight : t.side ≡ 8
-  pub seed_small : Within 2048 seed
+  pub best_small : NoMoreThanZero (sixteen_cost s) best

@@ -6,6 +6,7 @@ use Rattle.record.specs.Zero.{zero_vector}
 use Rattle.plane.specs.declared.Point.{Point}
 use Rattle.plane.specs.Plane.{Plane, copied, copied_block}
 use Rattle.plane.specs.Reference.{is_side}
+use Rattle.full_search.specs.declared.judged.Judged.{Judged}
 use Rattle.full_search.specs.declared.Lines.{Lines}
 use Rattle.full_search.specs.declared.Row.{Row}
 use Rattle.full_search.specs.declared.Scored.{Scored}
@@ -14,10 +15,14 @@ use Rattle.full_search.specs.Costs.{zero_discount, at_cost}
 use Rattle.full_search.specs.Places.{right, distance, row_place}
 use Rattle.full_search.specs.Full.{near_square, near_rows}
 use Rattle.full_search.specs.Told.{Within, moved_to}
-use Rattle.full_search.specs.ToldKept.{copied_cost, kept_of, found, NoMoreThanZero}
+use Rattle.full_search.specs.ToldKept.{judged_block, copied_cost, kept_of, found, NoMoreThanZero}
 
 abbrev pub lines_from : ℕ → ℕ → Lines
 lines_from first stride = record { first = first; stride = stride }
+
+-- the reference's samples from a displacement of the block on
+abbrev pub copied_from : Judged → MotionVector → ℕ → ℕ → List ℕ
+copied_from s d w h = let b = judged_block s in copied_block b.reference (moved_to b.corner d) w h
 
 -- where row j begins
 abbrev pub line_at : Lines → ℕ → ℕ

@@ -1,7 +1,6 @@
 -- The sum of a block against one that stands in a wider window.
 use Rattle.std.specs.Prelude.{ℕ, ◌+◌, ◌-◌, ◌*◌, List, length, get_or}
-use Rattle.refusal.specs.Reply.{Reply}
-use Rattle.refusal.specs.Reply.{and_then, done}
+use Rattle.refusal.specs.Reply.{Reply, and_then, done}
 use Rattle.plane.specs.declared.Geometry.{Geometry}
 use Rattle.plane.specs.Reference.{length_reply, side_reply, reference_bytes_reply}
 use Rattle.full_search.specs.Block.{differences, row_by_row}

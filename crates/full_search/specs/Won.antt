@@ -1,10 +1,8 @@
 -- What the public searches answer, with their refusals, and the sum of two blocks that are listed row by row. Rules C9, C14, C16.
-use Rattle.std.specs.Prelude.{ℕ, ◌&&◌, List, leb, eqb, pos, length, Result}
+use Rattle.std.specs.Prelude.{ℕ, ◌&&◌, List, leb, eqb, pos, length, Result, Ok}
 use Rattle.refusal.specs.declared.Refusal.{Refusal}
 use Rattle.refusal.specs.declared.Refusal.TheVariants.{Fcode, Place, Seed, Choice}
-use Rattle.refusal.specs.Reply.{Reply, answer}
-use Rattle.std.specs.Prelude.{Ok}
-use Rattle.refusal.specs.Reply.{unless, and_then, done}
+use Rattle.refusal.specs.Reply.{Reply, answer, unless, and_then, done}
 use Rattle.refusal.specs.Test.{in_range}
 use Rattle.record.specs.declared.MotionVector.{MotionVector}
 use Rattle.plane.specs.Reference.{vector_in_range, reference_reply, length_reply, side_reply}

@@ -1,22 +1,20 @@
 // The full-sample search: zero, the square of ±8, the lattice beyond it and the dense pass around the lattice's winner; and that of an
 // 8 x 8 block around a seed. Every row is searched on a patch of the reference that is copied once.
-ghost use Rattle.std.specs.Prelude.{◌≡◌, ◌+◌, ◌*◌, ◌<◌, ◌≤◌, pos, length, Ok};
+ghost use Rattle.std.specs.Prelude.{◌≡◌, ◌+◌, ◌*◌, ◌<◌, ◌≤◌, pos, length};
 ghost use Rattle.std.specs.Int.Signed.{quot_z};
 ghost use Rattle.record.specs.Zero.{zero_vector};
-ghost use Rattle.plane.specs.Plane.{plane_of, copied_block};
-ghost use Rattle.plane.specs.Reference.{reference_reply};
 ghost use Rattle.prediction.specs.Luma.{units_per_pel};
-ghost use Rattle.full_search.specs.Block.{block_of};
-ghost use Rattle.full_search.specs.Costs.{zero_discount, at_cost};
+ghost use Rattle.full_search.specs.Costs.{at_cost};
 ghost use Rattle.full_search.specs.Places.{row_of, square_of, square_row, back, places, lattice_from};
 ghost use Rattle.full_search.specs.Full.{near_rows, dense_row_at, dense_row, seed_from};
 ghost use Rattle.full_search.specs.Won.{sixteen_best, eight_best};
-ghost use Rattle.full_search.specs.Told.{Within, Inside, Ready, moved_to};
-ghost use Rattle.full_search.specs.ToldKept.{kept_of, found, kept_rows, target_cost, target_lattice};
-ghost use Rattle.full_search.specs.ToldKept.{row_below, rows_below, StripReady, SquareReady, WideReady, BandReady, LatticeReady, SeedReady};
-ghost use Rattle.full_search.specs.ToldPatch.{MiddleStart, NearKept};
+ghost use Rattle.full_search.specs.Told.{Within, Inside, moved_to};
+ghost use Rattle.full_search.specs.ToldKept.{kept_of, found, kept_rows, judged_block, sixteen_cost, eight_cost, target_lattice};
+ghost use Rattle.full_search.specs.ToldKept.{row_below, rows_below, StripReady, SquareReady, WideReady, BandReady, LatticeReady};
+ghost use Rattle.full_search.specs.ToldPatch.{copied_from, MiddleStart, NearKept};
 
-use crate::{Lines, Row, Scored, Square, Target, rows, sums};
+use crate::judged::Judged;
+use crate::{Lines, Row, Scored, Square, rows, sums};
 use plane::Point;
 use prediction::BVopSampleMode;
 use record::MotionVector;
@@ -35,52 +33,47 @@ fn moved_to(corner: Point, d: MotionVector) -> Point
 }
 
 // The reference's samples from a displacement of the block on. A target that a search takes is refused nowhere.
-fn copy_from(reference: &[u8], target: Target, d: MotionVector, w: usize, h: usize, out: &mut [u8])
-    requires { (reference_reply target.geometry (length reference.now) ≡ Ok tt) × Inside target.corner × Within 4096 d × (length out.old ≡ w * h) }
-    ensures { out.new ≡ copied_block (plane_of reference.now target.geometry) (moved_to target.corner d) w h }
+fn copy_from(judged: Judged<'_>, d: MotionVector, w: usize, h: usize, out: &mut [u8])
+    requires { Within 4096 d × (length out.old ≡ w * h) }
+    ensures { out.new ≡ copied_from judged.entry d w h }
 {
+    let sought = judged.sought;
+    let target = sought.target;
     let at = moved_to(target.corner, d);
-    let _ = plane::copy_block(reference, target.geometry, at, w, h, out);
+    let _ = plane::copy_block(sought.reference, target.geometry, at, w, h, out);
 }
 
-// Zero, at its sum less the discount.
-fn zero_start(source: &[u8], reference: &[u8], target: Target, discount: u32) -> Scored
-    requires { Ready source.now reference.now target }
-    ensures { result ≡ at_cost (target_cost discount source.now reference.now target) zero_vector }
+// Zero, at its sum.
+#[tactic(auto, using(crate::proofs::Patches::strip_shown, crate::proofs::Shown::shown_sum))]
+fn zero_start(judged: Judged<'_>) -> Scored
+    ensures { result ≡ at_cost (eight_cost judged.entry) zero_vector }
 {
     let mut copy = [0u8; 256];
-    let side = target.side;
+    let side = judged.sought.target.side;
     let zero = record::zero_vector();
     let block = &mut copy[..side * side];
-    copy_from(reference, target, zero, side, side, block);
-    let sum = sums::block(source, side, block, 0, side, side);
+    copy_from(judged, zero, side, side, block);
     Scored {
         vector: zero,
-        cost: sum.saturating_sub(discount),
+        cost: sums::block(judged.sought.source, side, block, 0, side, side),
     }
 }
 
 // The places of a row, on a strip of the reference.
-fn strip_search(
-    source: &[u8],
-    reference: &[u8],
-    target: Target,
-    strip: &mut [u8],
-    row: Row,
-    discount: u32,
-    best: Scored,
-) -> Scored
-    requires { StripReady source.now reference.now target strip.old row discount best }
-    ensures { result ≡ kept_of (target_cost discount source.now reference.now target) best (row_of row) }
+#[tactic(auto, using(crate::proofs::OnPatches::strip_kept))]
+fn strip_search(judged: Judged<'_>, strip: &mut [u8], row: Row, best: Scored) -> Scored
+    requires { StripReady judged strip.old row best }
+    ensures { result ≡ kept_of (sixteen_cost judged.entry) best (row_of row) }
 {
-    let side = target.side;
+    let sought = judged.sought;
+    let side = sought.target.side;
     let width = side + row.step * row.count;
-    copy_from(reference, target, row.from, width, side, strip);
+    copy_from(judged, row.from, width, side, strip);
     let lines = Lines {
         first: 0,
         stride: width,
     };
-    rows::row_search(source, side, strip, lines, row, discount, best)
+    rows::row_search(sought.source, side, strip, lines, row, ZERO_DISCOUNT, best)
 }
 
 // Row j of a square.
@@ -98,21 +91,14 @@ fn square_row(square: Square, j: usize) -> Row
 }
 
 // The rows of a square, on a patch of the reference.
-fn square_search(
-    source: &[u8],
-    reference: &[u8],
-    target: Target,
-    patch: &mut [u8],
-    square: Square,
-    discount: u32,
-    best: Scored,
-) -> Scored
-    requires { SquareReady source.now reference.now target patch.old square discount best }
-    ensures { result ≡ kept_of (target_cost discount source.now reference.now target) best (square_of square) }
+#[tactic(auto, using(crate::proofs::OnPatches::square_steps, crate::proofs::EqualSums::no_discount))]
+fn square_search(judged: Judged<'_>, patch: &mut [u8], square: Square, best: Scored) -> Scored
+    requires { SquareReady judged patch.old square best }
+    ensures { result ≡ kept_of (eight_cost judged.entry) best (square_of square) }
 {
-    let side = target.side;
+    let side = judged.sought.target.side;
     let width = side + square.count - 1;
-    copy_from(reference, target, square.from, width, width, patch);
+    copy_from(judged, square.from, width, width, patch);
     let mut b = best;
     for j in 0..square.count {
         let row = square_row(square, j);
@@ -120,12 +106,13 @@ fn square_search(
             first: j * width,
             stride: width,
         };
-        b = rows::row_search(source, side, patch, lines, row, discount, b);
+        b = rows::row_search(judged.sought.source, side, patch, lines, row, 0, b);
     }
     b
 }
 
 // Zero, whose block is the middle of the patch, at its sum less the discount.
+#[tactic(auto, using(crate::proofs::OnPatches::middle_sum))]
 fn middle_start(source: &[u8], patch: &[u8]) -> Scored
     requires { (length source.now ≡ 256) × (length patch.now ≡ 1024) }
     ensures { MiddleStart source.now patch.now result }
@@ -138,6 +125,7 @@ fn middle_start(source: &[u8], patch: &[u8]) -> Scored
 }
 
 // Zero, then the rows of the square of ±8, on their patch.
+#[tactic(auto, using(crate::proofs::OnPatches::square_steps, crate::proofs::OnPatches::near_all))]
 fn near_rows(source: &[u8], patch: &[u8]) -> Scored
     requires { (length source.now ≡ 256) × (length patch.now ≡ 1024) }
     ensures { NearKept source.now patch.now result }
@@ -160,14 +148,14 @@ fn near_rows(source: &[u8], patch: &[u8]) -> Scored
 }
 
 // Zero, then the square of ±8.
-fn near_search(source: &[u8], reference: &[u8], target: Target) -> Scored
-    requires { Ready source.now reference.now target × (target.side ≡ 16) }
-    ensures { result ≡ found (target_cost zero_discount source.now reference.now target) near_rows }
+fn near_search(judged: Judged<'_>) -> Scored
+    requires { judged.sought.target.side ≡ 16 }
+    ensures { result ≡ found (sixteen_cost judged.entry) near_rows }
 {
     let mut patch = [0u8; 1024];
     let from = MotionVector { x: -8, y: -8 };
-    copy_from(reference, target, from, 32, 32, &mut patch);
-    near_rows(source, &patch)
+    copy_from(judged, from, 32, 32, &mut patch);
+    near_rows(judged.sought.source, &patch)
 }
 
 // How far the clipped window goes back.
@@ -210,20 +198,12 @@ fn row_below(row: Row, by: usize) -> Row
 
 // At most four rows of the lattice, on a band of the reference: they are four samples apart, so that 28 rows of samples are copied
 // for them and not 16 for each.
-fn band_search(
-    source: &[u8],
-    reference: &[u8],
-    target: Target,
-    band: &mut [u8],
-    first: Row,
-    n: usize,
-    best: Scored,
-) -> Scored
-    requires { BandReady source.now reference.now target band.old first n best }
-    ensures { result ≡ kept_of (target_cost zero_discount source.now reference.now target) best (rows_below first n) }
+fn band_search(judged: Judged<'_>, band: &mut [u8], first: Row, n: usize, best: Scored) -> Scored
+    requires { BandReady judged band.old first n best }
+    ensures { result ≡ kept_of (sixteen_cost judged.entry) best (rows_below first n) }
 {
     let width = 16 + first.step * first.count;
-    copy_from(reference, target, first.from, width, 28, band);
+    copy_from(judged, first.from, width, 28, band);
     let mut b = best;
     for i in 0..n {
         let row = row_below(first, 4 * i);
@@ -231,55 +211,52 @@ fn band_search(
             first: 4 * i * width,
             stride: width,
         };
-        b = rows::sixteen_row(source, band, lines, row, ZERO_DISCOUNT, b);
+        b = rows::sixteen_row(judged.sought.source, band, lines, row, ZERO_DISCOUNT, b);
     }
     b
 }
 
 // The lattice's rows, band by band.
 fn lattice_bands(
-    source: &[u8],
-    reference: &[u8],
-    target: Target,
+    judged: Judged<'_>,
     first: Row,
     lines: usize,
     band: &mut [u8],
     best: Scored,
 ) -> Scored
-    requires { LatticeReady source.now reference.now target first lines 2048 best × ((16 + first.step * first.count) * 28 ≤ length band.old) }
-    ensures { result ≡ kept_of (target_cost zero_discount source.now reference.now target) best (rows_below first lines) }
+    requires { LatticeReady judged first lines 2048 best × ((16 + first.step * first.count) * 28 ≤ length band.old) }
+    ensures { result ≡ kept_of (sixteen_cost judged.entry) best (rows_below first lines) }
 {
     let size = (16 + first.step * first.count) * 28;
     let mut b = best;
     for j in (0..lines).step_by(4) {
         let n = (lines - j).min(4);
         let row = row_below(first, 4 * j);
-        b = band_search(source, reference, target, &mut band[..size], row, n, b);
+        b = band_search(judged, &mut band[..size], row, n, b);
     }
     b
 }
 
 // On a band of this size: a small one is cleared sooner than one that every lattice fits.
 fn sized_lattice<const SIZE: usize>(
-    source: &[u8],
-    reference: &[u8],
-    target: Target,
+    judged: Judged<'_>,
     first: Row,
     lines: usize,
     best: Scored,
 ) -> Scored
-    requires { LatticeReady source.now reference.now target first lines 2048 best × ((16 + first.step * first.count) * 28 ≤ SIZE) × (SIZE ≤ 57792) }
-    ensures { result ≡ kept_of (target_cost zero_discount source.now reference.now target) best (rows_below first lines) }
+    requires { LatticeReady judged first lines 2048 best × ((16 + first.step * first.count) * 28 ≤ SIZE) × (SIZE ≤ 57792) }
+    ensures { result ≡ kept_of (sixteen_cost judged.entry) best (rows_below first lines) }
 {
     let mut band = [0u8; SIZE];
-    lattice_bands(source, reference, target, first, lines, &mut band, best)
+    lattice_bands(judged, first, lines, &mut band, best)
 }
 
 // The lattice.
-fn lattice_search(source: &[u8], reference: &[u8], target: Target, w: usize, best: Scored) -> Scored
-    requires { WideReady source.now reference.now target w best }
-    ensures { result ≡ kept_of (target_cost zero_discount source.now reference.now target) best (target_lattice w target) }
+fn lattice_search(judged: Judged<'_>, w: usize, best: Scored) -> Scored
+    requires { WideReady judged w best }
+    ensures { let s = judged.entry in result ≡ kept_of (sixteen_cost s) best (target_lattice w s.sought.target) }
 {
+    let target = judged.sought.target;
     let corner = target.corner;
     let count = places(w, corner.x as usize, target.geometry.width);
     let lines = places(w, corner.y as usize, target.geometry.height);
@@ -291,9 +268,9 @@ fn lattice_search(source: &[u8], reference: &[u8], target: Target, w: usize, bes
         outer: w,
     };
     if count <= 64 {
-        return sized_lattice::<7616>(source, reference, target, first, lines, best);
+        return sized_lattice::<7616>(judged, first, lines, best);
     }
-    sized_lattice::<57792>(source, reference, target, first, lines, best)
+    sized_lattice::<57792>(judged, first, lines, best)
 }
 
 // Row j of the dense pass: seven columns around c, rows around the lattice's winner.
@@ -315,32 +292,33 @@ fn dense_row(w: usize, winner: MotionVector, c: MotionVector, j: usize) -> Row
 }
 
 // The dense pass: its rows are fixed by the winner at its start, its columns are taken anew in each row.
-fn dense_search(source: &[u8], reference: &[u8], target: Target, w: usize, best: Scored) -> Scored
-    requires { WideReady source.now reference.now target w best × Within 1023 best.vector }
-    ensures { result ≡ kept_rows (target_cost zero_discount source.now reference.now target) (dense_row w best.vector.y) best 7 }
+#[tactic(auto, using(crate::proofs::Kept::kept_rows_more), unfolding(crate::specs::ToldKept::kept_rows))]
+fn dense_search(judged: Judged<'_>, w: usize, best: Scored) -> Scored
+    requires { WideReady judged w best × Within 1023 best.vector }
+    ensures { result ≡ kept_rows (sixteen_cost judged.entry) (dense_row w best.vector.y) best 7 }
 {
     let mut strip = [0u8; 368];
     let winner = best.vector;
     let mut b = best;
     for j in 0..7 {
         let row = dense_row(w, winner, b.vector, j);
-        b = strip_search(source, reference, target, &mut strip, row, ZERO_DISCOUNT, b);
+        b = strip_search(judged, &mut strip, row, b);
     }
     b
 }
 
 // The winner of the full-sample list of one vector, with its cost.
-pub fn full_search(source: &[u8], reference: &[u8], target: Target, fcode: u32, w: usize) -> Scored
-    requires { Ready source.now reference.now target × (target.side ≡ 16) × (w ≤ 1023) }
-    ensures { result ≡ sixteen_best (block_of source.now reference.now target) fcode w }
+pub fn full_search(judged: Judged<'_>, fcode: u32, w: usize) -> Scored
+    requires { (judged.sought.target.side ≡ 16) × (w ≤ 1023) }
+    ensures { result ≡ sixteen_best (judged_block judged.entry) fcode w }
 {
-    let near = near_search(source, reference, target);
+    let near = near_search(judged);
     if fcode <= 1 {
         return near;
     }
-    let coarse = lattice_search(source, reference, target, w, near);
+    let coarse = lattice_search(judged, w, near);
     if coarse.cost < near.cost {
-        return dense_search(source, reference, target, w, coarse);
+        return dense_search(judged, w, coarse);
     }
     near
 }
@@ -366,23 +344,17 @@ fn seed_from(seed: MotionVector, mode: BVopSampleMode) -> MotionVector
 }
 
 // The winner of the full-sample list of one of four vectors, with its sum.
-pub fn four_search(
-    source: &[u8],
-    reference: &[u8],
-    target: Target,
-    w: usize,
-    mode: BVopSampleMode,
-    seed: MotionVector,
-) -> Scored
-    requires { SeedReady source.now reference.now target seed }
-    ensures { result ≡ eight_best (block_of source.now reference.now target) mode w seed }
+#[tactic(auto, using(crate::proofs::FullSearch::four_is), unfolding(crate::specs::Won::eight_best))]
+pub fn four_search(judged: Judged<'_>, w: usize, mode: BVopSampleMode, seed: MotionVector) -> Scored
+    requires { (judged.sought.target.side ≡ 8) × Within 2048 seed }
+    ensures { result ≡ eight_best (judged_block judged.entry) mode w seed }
 {
     let mut patch = [0u8; 144];
-    let zero = zero_start(source, reference, target, 0);
+    let zero = zero_start(judged);
     let square = Square {
         from: seed_from(seed, mode),
         count: 5,
         outer: w,
     };
-    square_search(source, reference, target, &mut patch, square, 0, zero)
+    square_search(judged, &mut patch, square, zero)
 }

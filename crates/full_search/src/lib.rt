@@ -1,18 +1,20 @@
 // The full-sample search: of a 16 x 16 block, and of an 8 x 8 block around a seed; and the sum of absolute differences of two blocks.
 #![tactic(auto)]
 
-ghost use Rattle.std.specs.Prelude.{◌≡◌};
+ghost use Rattle.std.specs.Prelude.{◌≡◌, length};
 ghost use Rattle.full_search.specs.Costs.{consider};
 ghost use Rattle.full_search.specs.Won.{window_reply, placed_reply, square_reply, sixteen_reply, seed_size_reply, eight_reply, sum_reply};
 ghost use Rattle.full_search.specs.Won.{sixteen_won, eight_won, sum_of};
 ghost use Rattle.full_search.specs.Window.{window_sum_reply, window_sum_of};
 
+use judged::Judged;
 use plane::{Geometry, Point};
 use prediction::BVopSampleMode;
 use record::MotionVector;
 use refusal::{Refusal, Reply};
 
 mod full;
+mod judged;
 mod rows;
 mod sums;
 
@@ -29,6 +31,14 @@ pub struct Target {
     pub geometry: Geometry,
     pub corner: Point,
     pub side: usize,
+}
+
+// A block that is searched for: its samples, row by row, the reference, and where the block stands in it.
+#[derive(Clone, Copy)]
+pub struct Sought<'a> {
+    pub source: &'a [u8],
+    pub reference: &'a [u8],
+    pub target: Target,
 }
 
 // Places in a row: `count` from `from` on, `step` apart, of which those are listed that go `inner` to `outer` samples in either direction.
@@ -99,12 +109,12 @@ fn square_reply(side: usize, area: usize, target: Target) -> Reply
 
 // 1, 4, 5, 8, 12, 14
 #[tactic(auto, unfolding(crate::specs::Won::sixteen_reply))]
-fn sixteen_reply(area: usize, bytes: usize, target: Target, window: usize) -> Reply
-    ensures { result ≡ sixteen_reply area bytes target window }
+fn sixteen_reply(sought: Sought<'_>, window: usize) -> Reply
+    ensures { let s = sought.entry in result ≡ sixteen_reply (length s.source.now) (length s.reference.now) s.target window }
 {
     window_reply(window)?;
-    placed_reply(bytes, target)?;
-    square_reply(16, area, target)
+    placed_reply(sought.reference.len(), sought.target)?;
+    square_reply(16, sought.source.len(), sought.target)
 }
 
 // 9
@@ -117,50 +127,38 @@ fn seed_reply(seed: MotionVector) -> Reply
 
 // 1, 4, 5, 8, 9, 12, 14
 #[tactic(auto, unfolding(crate::specs::Won::eight_reply))]
-fn eight_reply(
-    area: usize,
-    bytes: usize,
-    target: Target,
-    window: usize,
-    seed: MotionVector,
-) -> Reply
-    ensures { result ≡ eight_reply area bytes target window seed }
+fn eight_reply(sought: Sought<'_>, window: usize, seed: MotionVector) -> Reply
+    ensures { let s = sought.entry in result ≡ eight_reply (length s.source.now) (length s.reference.now) s.target window seed }
 {
     window_reply(window)?;
-    placed_reply(bytes, target)?;
+    placed_reply(sought.reference.len(), sought.target)?;
     seed_reply(seed)?;
-    square_reply(8, area, target)
+    square_reply(8, sought.source.len(), sought.target)
 }
 
 // The winner of the full-sample list of one vector, with its cost, of the 256 samples of a 16 x 16 block: 1, 4, 5, 8, 12, 14.
 #[tactic(auto, using(crate::proofs::Taken::sixteen_is), unfolding(crate::specs::Won::sixteen_won))]
-pub fn search_sixteen(
-    source: &[u8],
-    reference: &[u8],
-    target: Target,
-    fcode: u32,
-    window: usize,
-) -> Result<Scored, Refusal>
-    ensures { result ≡ sixteen_won source.now reference.now target fcode window }
+pub fn search_sixteen(sought: Sought<'_>, fcode: u32, window: usize) -> Result<Scored, Refusal>
+    ensures { let s = sought.entry in
+        result ≡ sixteen_won s.source.now s.reference.now s.target fcode window }
 {
-    sixteen_reply(source.len(), reference.len(), target, window)?;
-    Ok(full::full_search(source, reference, target, fcode, window))
+    sixteen_reply(sought, window)?;
+    Ok(full::full_search(Judged { sought }, fcode, window))
 }
 
 // The winner of the full-sample list of one of four, with its sum, of the 64 samples of an 8 x 8 block: 1, 4, 5, 8, 9, 12, 14.
 #[tactic(auto, using(crate::proofs::Taken::eight_is), unfolding(crate::specs::Won::eight_won))]
 pub fn search_eight(
-    source: &[u8],
-    reference: &[u8],
-    target: Target,
+    sought: Sought<'_>,
     mode: BVopSampleMode,
     window: usize,
     seed: MotionVector,
 ) -> Result<Scored, Refusal>
-    ensures { result ≡ eight_won source.now reference.now target mode window seed }
+    ensures { let s = sought.entry in
+        result ≡ eight_won s.source.now s.reference.now s.target mode window seed }
 {
-    eight_reply(source.len(), reference.len(), target, window, seed)?;
-    Ok(full::four_search(source, reference, target, window, mode, seed))
+    eight_reply(sought, window, seed)?;
+    Ok(full::four_search(Judged { sought }, window, mode, seed))
 }
 
 // 14, 12
@@ -174,7 +172,7 @@ fn sum_reply(area: usize, predicted: usize, side: usize) -> Reply
 }
 
 // The sum of absolute differences of two blocks of side 8 or 16, each row by row; 0 where they are not such blocks.
-#[tactic(auto, unfolding(crate::specs::Won::sum_of))]
+#[tactic(auto, using(crate::proofs::Taken::block_sums), unfolding(crate::specs::Won::sum_of))]
 pub fn block_sum(source: &[u8], predicted: &[u8], side: usize) -> u32
     ensures { result ≡ sum_of source.now predicted.now side }
 {
@@ -201,7 +199,7 @@ fn window_sum_reply(area: usize, bytes: usize, at: usize, stride: usize, side: u
 
 // The sum of absolute differences of a block of side 8 or 16, row by row, and the one that stands at `at` in a window whose rows are
 // `stride` samples apart; 0 where there are no such blocks.
-#[tactic(auto, unfolding(crate::specs::Window::window_sum_of))]
+#[tactic(auto, using(crate::proofs::WindowSums::window_sums), unfolding(crate::specs::Window::window_sum_of))]
 pub fn window_sum(source: &[u8], window: &[u8], at: usize, stride: usize, side: usize) -> u32
     ensures { result ≡ window_sum_of source.now window.now at stride side }
 {

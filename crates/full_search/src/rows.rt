@@ -34,6 +34,7 @@ fn distance(d: MotionVector) -> usize
 }
 
 // One place of a row, whose block stands at `at` in the patch.
+#[tactic(auto, using(crate::proofs::OnPatches::passed_over, crate::proofs::Listed::too_near, crate::proofs::Listed::too_far))]
 fn place_search(
     source: &[u8],
     side: usize,
@@ -62,6 +63,7 @@ fn place_search(
 }
 
 // The places of a row, the first of which stands at `at` in the patch.
+#[tactic(auto, using(crate::proofs::OnPatches::row_steps))]
 pub fn row_search(
     source: &[u8],
     side: usize,

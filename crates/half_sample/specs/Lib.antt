@@ -3,3 +3,4 @@ pub mod Average
 pub mod Block
 pub mod Ring
 pub mod ToldRows
+pub mod ToldShifted

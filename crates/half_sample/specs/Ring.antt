@@ -1,11 +1,9 @@
 -- The samples half a sample from those of a patch that is listed row by row (7.6.2.1): around a whole place they are all that its eight
 -- neighbours half a sample away are made of.
-use Rattle.std.specs.Prelude.{ℕ, zero, suc, ◌+◌, ◌-◌, ◌%◌, Bool, not, ◌&&◌, List, ltb, eqb, pos, ◌+ℤ◌, ◌-ℤ◌, get_or}
+use Rattle.std.specs.Prelude.{ℕ, zero, suc, ◌+◌, ◌-◌, ◌%◌, Bool, not, ◌&&◌, List, ltb, eqb, pos, ◌+ℤ◌, ◌-ℤ◌, get_or, Ok}
 use Rattle.basis.specs.Lists.{tabulate}
 use Rattle.refusal.specs.declared.Refusal.TheVariants.{Length}
-use Rattle.refusal.specs.Reply.{Reply}
-use Rattle.std.specs.Prelude.{Ok}
-use Rattle.refusal.specs.Reply.{unless}
+use Rattle.refusal.specs.Reply.{Reply, unless}
 use Rattle.record.specs.declared.MotionVector.{MotionVector}
 use Rattle.plane.specs.declared.Point.{Point}
 use Rattle.half_sample.specs.Split.{split_half}

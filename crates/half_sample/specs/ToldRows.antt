@@ -1,7 +1,6 @@
 -- Told, not believed: averages between two rows of samples, how many samples a row takes, and what the functions of rows need.
-use Rattle.std.specs.Prelude.{ℕ, ◌+◌, ◌*◌, ◌<◌, ◌≤◌, Bool, true, false, ◌||◌, List, ◌≡◌, ℤ, length, get_or}
+use Rattle.std.specs.Prelude.{ℕ, ◌+◌, ◌*◌, ◌<◌, ◌≤◌, Bool, true, false, ◌||◌, List, ◌≡◌, ℤ, length, get_or, Ok}
 use Rattle.basis.specs.Lists.{raster}
-use Rattle.std.specs.Prelude.{Ok}
 use Rattle.plane.specs.declared.Geometry.{Geometry}
 use Rattle.plane.specs.declared.Point.{Point}
 use Rattle.plane.specs.declared.Site.{Site}

@@ -13,9 +13,11 @@ ghost use Rattle.half_sample.specs.Ring.{ring_reply, ring_grid};
 use plane::{Geometry, Point, Site};
 use record::MotionVector;
 use refusal::Reply;
+use shifted::Shifted;
 
 mod ring;
 mod rows;
+mod shifted;
 
 // A vector component: whole samples, and whether half a sample is left.
 #[derive(Clone, Copy, Debug, PartialEq, Eq)]
@@ -94,7 +96,14 @@ fn interpolate_ready(
         y: along.half,
         rc: u16::from(rounding % 2),
     };
-    rows::interpolate_from(samples, geometry, at, site, halves, out);
+    let block = Shifted {
+        samples,
+        geometry,
+        at,
+        site,
+        halves,
+    };
+    rows::interpolate_from(block, out);
 }
 
 // The prediction of a block of sides 8 or 16, row by row: 4, 5, 8, 12, 14.

@@ -4,11 +4,13 @@
 ghost use Rattle.std.specs.Prelude.{◌≡◌, true, ◌*◌, ◌<◌, ◌≤◌, pos, length};
 ghost use Rattle.basis.specs.Lists.{tabulate, raster};
 ghost use Rattle.plane.specs.Plane.{geometry_of, plane_of};
-ghost use Rattle.half_sample.specs.ToldRows.{samples_for, average_at, sample_by, block_by, some_half, right_of, below_of, between_four};
-ghost use Rattle.half_sample.specs.ToldRows.{RowNeeds, PlaneRowNeeds, PlaneRowsNeeds, BlockNeeds};
+ghost use Rattle.half_sample.specs.ToldRows.{samples_for, average_at, sample_by, some_half, right_of, below_of, between_four};
+ghost use Rattle.half_sample.specs.ToldRows.{RowNeeds, PlaneRowNeeds, PlaneRowsNeeds};
+ghost use Rattle.half_sample.specs.ToldShifted.{area_of, shifted_block};
 
 use crate::Halves;
-use plane::{Geometry, Point, Site};
+use crate::shifted::Shifted;
+use plane::{Geometry, Point};
 
 // Half a sample to the right.
 #[tactic(auto, using(basis::proofs::Lists::filled_none, basis::proofs::Lists::filled_set))]
@@ -118,19 +120,18 @@ fn plane_rows(
 }
 
 // By way of a copy in the buffer.
-fn copied_rows(
-    samples: &[u8],
-    geometry: Geometry,
-    at: Point,
-    site: Site,
-    halves: Halves,
-    buffer: &mut [u8],
-    out: &mut [u8],
-)
-    requires { BlockNeeds geometry (length samples.now) site halves (length out.old) × (some_half halves ≡ true)
-        × (length buffer.old ≡ samples_for site.width halves.x * samples_for site.height halves.y) }
-    ensures { out.new ≡ block_by (plane_of samples.now geometry) at site halves }
+fn copied_rows(block: Shifted<'_>, buffer: &mut [u8], out: &mut [u8])
+    requires { (length out.old ≡ area_of block) × (some_half block.halves ≡ true)
+        × (length buffer.old ≡ samples_for block.site.width block.halves.x * samples_for block.site.height block.halves.y) }
+    ensures { out.new ≡ shifted_block block.entry }
 {
+    let Shifted {
+        samples,
+        geometry,
+        at,
+        site,
+        halves,
+    } = block;
     let columns = samples_for(site.width, halves.x);
     let lines = samples_for(site.height, halves.y);
     let _ = plane::copy_block(samples, geometry, at, columns, lines, buffer);
@@ -148,43 +149,29 @@ fn copied_rows(
     );
 }
 
-fn crossing(
-    samples: &[u8],
-    geometry: Geometry,
-    at: Point,
-    site: Site,
-    halves: Halves,
-    out: &mut [u8],
-)
-    requires { BlockNeeds geometry (length samples.now) site halves (length out.old) × (some_half halves ≡ true) }
-    ensures { out.new ≡ block_by (plane_of samples.now geometry) at site halves }
+fn crossing(block: Shifted<'_>, out: &mut [u8])
+    requires { (length out.old ≡ area_of block) × (some_half block.halves ≡ true) }
+    ensures { out.new ≡ shifted_block block.entry }
 {
     let mut buffer = [0u8; 289];
-    let count = samples_for(site.width, halves.x) * samples_for(site.height, halves.y);
-    copied_rows(
+    let site = block.site;
+    let count = samples_for(site.width, block.halves.x) * samples_for(site.height, block.halves.y);
+    copied_rows(block, &mut buffer[..count], out);
+}
+
+// Half a sample on in one direction or in both.
+#[tactic(auto, using(plane::proofs::Ready::usable))]
+fn averaged(block: Shifted<'_>, out: &mut [u8])
+    requires { (length out.old ≡ area_of block) × (some_half block.halves ≡ true) }
+    ensures { out.new ≡ shifted_block block.entry }
+{
+    let Shifted {
         samples,
         geometry,
         at,
         site,
         halves,
-        &mut buffer[..count],
-        out,
-    );
-}
-
-// Half a sample on in one direction or in both.
-#[tactic(auto, using(plane::proofs::Ready::usable))]
-fn averaged(
-    samples: &[u8],
-    geometry: Geometry,
-    at: Point,
-    site: Site,
-    halves: Halves,
-    out: &mut [u8],
-)
-    requires { BlockNeeds geometry (length samples.now) site halves (length out.old) × (some_half halves ≡ true) }
-    ensures { out.new ≡ block_by (plane_of samples.now geometry) at site halves }
-{
+    } = block;
     let columns = samples_for(site.width, halves.x);
     if plane::columns_inside(at.x, columns, geometry.width) {
         plane_rows(
@@ -200,26 +187,26 @@ fn averaged(
             out,
         );
     } else {
-        crossing(samples, geometry, at, site, halves, out);
+        crossing(block, out);
     }
 }
 
-// The block as wide and as high as a site that starts at a point, or half a sample on from there. What is called from one place only
-// is compiled into its caller, so that sites and sizes stay in registers: `averaged` and `crossing` are called once.
+// The block, whole samples or half a sample on. What is called from one place only is compiled into its caller, so that sites and
+// sizes stay in registers: `averaged` and `crossing` are called once.
 #[tactic(auto, using(plane::proofs::Ready::copy_done))]
-pub fn interpolate_from(
-    samples: &[u8],
-    geometry: Geometry,
-    at: Point,
-    site: Site,
-    halves: Halves,
-    out: &mut [u8],
-)
-    requires { BlockNeeds geometry (length samples.now) site halves (length out.old) }
-    ensures { out.new ≡ block_by (plane_of samples.now geometry) at site halves }
+pub fn interpolate_from(block: Shifted<'_>, out: &mut [u8])
+    requires { length out.old ≡ area_of block }
+    ensures { out.new ≡ shifted_block block.entry }
 {
+    let Shifted {
+        samples,
+        geometry,
+        at,
+        site,
+        halves,
+    } = block;
     if halves.x || halves.y {
-        averaged(samples, geometry, at, site, halves, out);
+        averaged(block, out);
     } else {
         let _ = plane::copy_block(samples, geometry, at, site.width, site.height, out);
     }

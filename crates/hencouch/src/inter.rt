@@ -11,7 +11,8 @@ ghost use Rattle.macroblock.specs.Activities.{intra_activity};
 ghost use Rattle.areas.specs.Numbers.{size_of, macroblock_at, is_set};
 ghost use Rattle.areas.specs.Whole.{patterns_area};
 
-use plane::{MacroblockPlace, SourceSize};
+use coding::{EventAreas, Quantising};
+use plane::{MacroblockPlace, Samples, SourceSize};
 
 // How far a macroblock's luma lies from its mean: 6, 7, 8.
 pub fn hencouch_intra_activity(
@@ -55,7 +56,13 @@ pub fn hencouch_macroblock_residual(
 {
     let size = SourceSize { width, height };
     let place = MacroblockPlace { column, row };
-    let reply = coding::macroblock_residual(y, cb, cr, size, place, pred_y, pred_cb, pred_cr, out);
+    let source = Samples { y, cb, cr };
+    let prediction = Samples {
+        y: pred_y,
+        cb: pred_cb,
+        cr: pred_cr,
+    };
+    let reply = coding::macroblock_residual(source, size, place, prediction, out);
     refusal::code(reply)
 }
 
@@ -80,10 +87,18 @@ pub fn hencouch_quantise_inter_block(
         × (new ≡ done reply (block_areas by block) old)
         × (count.new ≡ done reply (count_of by block) count.old) }
 {
-    let first = areas::numbers::is_set(first_method);
-    let told = coding::quantise_inter_block(
-        residual, quantiser, first, weights, scan, lasts, runs, levels,
-    );
+    let by = Quantising {
+        quantiser,
+        first_method: areas::numbers::is_set(first_method),
+        weights,
+        scan,
+    };
+    let mut out = EventAreas {
+        lasts,
+        runs,
+        levels,
+    };
+    let told = coding::quantise_inter_block(residual, by, &mut out);
     areas::records::write(told, count)
 }
 
@@ -108,10 +123,18 @@ pub fn hencouch_quantise_inter_residual(
         × (new ≡ done reply (areas_of by all) old)
         × (counts.new ≡ done reply (counts_of by all) counts.old) }
 {
-    let first = areas::numbers::is_set(first_method);
-    let told = coding::quantise_inter_residual(
-        residual, quantiser, first, weights, scan, lasts, runs, levels,
-    );
+    let by = Quantising {
+        quantiser,
+        first_method: areas::numbers::is_set(first_method),
+        weights,
+        scan,
+    };
+    let mut out = EventAreas {
+        lasts,
+        runs,
+        levels,
+    };
+    let told = coding::quantise_inter_residual(residual, by, &mut out);
     areas::records::write(told, counts)
 }
 

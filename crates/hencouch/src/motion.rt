@@ -9,6 +9,7 @@ ghost use Rattle.areas.specs.Numbers.{vector_of, size_of, macroblock_at};
 ghost use Rattle.areas.specs.Search.{vector_area, vectors_area, one_answer, four_answer};
 
 use plane::{Geometry, MacroblockPlace, SourceSize};
+use search::SearchRequest;
 
 // One vector and its sum: 1, 2, 3, 4, 5, 6, 7, 8, 12.
 pub fn hencouch_estimate_motion(
@@ -41,7 +42,17 @@ pub fn hencouch_estimate_motion(
         height: ref_height,
         stride,
     };
-    let found = search::estimate_motion(source, size, place, reference, geometry, mode, bpp, fcode);
+    let request = SearchRequest {
+        source,
+        size,
+        place,
+        reference,
+        geometry,
+        mode,
+        bpp,
+        fcode,
+    };
+    let found = search::estimate_motion(request);
     areas::vectors::write_one(found, vector, sum)
 }
 
@@ -78,9 +89,17 @@ pub fn hencouch_estimate_motion_4mv(
         height: ref_height,
         stride,
     };
+    let request = SearchRequest {
+        source,
+        size,
+        place,
+        reference,
+        geometry,
+        mode,
+        bpp,
+        fcode,
+    };
     let seed = areas::numbers::vector_of(seed_x, seed_y);
-    let found = search::estimate_motion_4mv(
-        source, size, place, reference, geometry, mode, bpp, fcode, seed,
-    );
+    let found = search::estimate_motion_4mv(request, seed);
     areas::vectors::write_four(found, vectors, sums)
 }

@@ -12,7 +12,9 @@ ghost use Rattle.areas.specs.Numbers.{size_of, macroblock_settings, reference_ge
 ghost use Rattle.areas.specs.Run.{run_of, run_numbers, place_numbers, totals_numbers};
 ghost use Rattle.areas.specs.Whole.{record_areas, record_areas_of};
 
-use plane::{Geometry, SourceSize};
+use coding::EventAreas;
+use macroblock::{PredictedRequest, Request};
+use plane::{Geometry, Samples, SourceSize};
 
 // A run of which nothing is coded yet: 6.
 pub fn hencouch_open(width: usize, height: usize, run: &mut [u64; 5]) -> u8
@@ -101,11 +103,28 @@ pub fn hencouch_step(
         stride,
     };
     let size = SourceSize { width, height };
+    let source = Samples { y, cb, cr };
+    let prediction = Samples {
+        y: pred_y,
+        cb: pred_cb,
+        cr: pred_cr,
+    };
+    let request = Request {
+        settings,
+        reference,
+        geometry,
+        source,
+        size,
+        weights,
+        prediction,
+    };
+    let mut out = EventAreas {
+        lasts,
+        runs,
+        levels,
+    };
     let mut next = areas::runs::run_of(*run);
-    let told = picture::step(
-        &mut next, settings, reference, geometry, y, cb, cr, size, weights, pred_y, pred_cb,
-        pred_cr, lasts, runs, levels,
-    );
+    let told = picture::step(&mut next, request, &mut out);
     if told.is_ok() {
         *run = areas::runs::run_numbers(next);
     }
@@ -175,11 +194,28 @@ pub fn hencouch_step_predicted(
     );
     let geometry = areas::numbers::reference_geometry(ref_width, ref_height, stride, chroma_stride);
     let size = SourceSize { width, height };
+    let reference = Samples {
+        y: ref_y,
+        cb: ref_cb,
+        cr: ref_cr,
+    };
+    let source = Samples { y, cb, cr };
+    let request = PredictedRequest {
+        settings,
+        rounding,
+        reference,
+        geometry,
+        source,
+        size,
+        weights,
+    };
+    let mut out = EventAreas {
+        lasts,
+        runs,
+        levels,
+    };
     let mut next = areas::runs::run_of(*run);
-    let told = picture::step_predicted(
-        &mut next, settings, rounding, ref_y, ref_cb, ref_cr, geometry, y, cb, cr, size, weights,
-        lasts, runs, levels,
-    );
+    let told = picture::step_predicted(&mut next, request, &mut out);
     if told.is_ok() {
         *run = areas::runs::run_numbers(next);
     }

@@ -10,7 +10,7 @@ ghost use Rattle.prediction.specs.Prediction.{macroblock_prediction};
 ghost use Rattle.areas.specs.Numbers.{vector_of, four_motion, macroblock_at, reference_geometry};
 ghost use Rattle.predicting.specs.Samples.{macroblock_samples_reply};
 
-use plane::MacroblockPlace;
+use plane::{MacroblockPlace, Samples, SamplesMut};
 use prediction::PvopMbMotion;
 
 // By one vector: 2, 3, 4, 5, 8, 12, 31.
@@ -46,19 +46,21 @@ pub fn hencouch_predict_macroblock(
     let geometry = areas::numbers::reference_geometry(width, height, stride, chroma_stride);
     let motion = PvopMbMotion::OneMv(areas::numbers::vector_of(mv_x, mv_y));
     let place = MacroblockPlace { column, row };
+    let reference = Samples {
+        y: ref_y,
+        cb: ref_cb,
+        cr: ref_cr,
+    };
+    let mut out = SamplesMut { y, cb, cr };
     let reply = predicting::predict_macroblock(
-        ref_y,
-        ref_cb,
-        ref_cr,
+        reference,
         geometry,
         mode,
         bits_per_pixel,
         motion,
         place,
         rounding,
-        y,
-        cb,
-        cr,
+        &mut out,
     );
     refusal::code(reply)
 }
@@ -95,19 +97,21 @@ pub fn hencouch_predict_macroblock_4mv(
     let geometry = areas::numbers::reference_geometry(width, height, stride, chroma_stride);
     let motion = areas::numbers::four_motion(*vectors);
     let place = MacroblockPlace { column, row };
+    let reference = Samples {
+        y: ref_y,
+        cb: ref_cb,
+        cr: ref_cr,
+    };
+    let mut out = SamplesMut { y, cb, cr };
     let reply = predicting::predict_macroblock(
-        ref_y,
-        ref_cb,
-        ref_cr,
+        reference,
         geometry,
         mode,
         bits_per_pixel,
         motion,
         place,
         rounding,
-        y,
-        cb,
-        cr,
+        &mut out,
     );
     refusal::code(reply)
 }

@@ -10,7 +10,9 @@ ghost use Rattle.plane.specs.Plane.{geometry_of};
 ghost use Rattle.areas.specs.Numbers.{size_of, macroblock_at, macroblock_settings, reference_geometry};
 ghost use Rattle.areas.specs.Whole.{record_areas, record_areas_of};
 
-use plane::{Geometry, MacroblockPlace, SourceSize};
+use coding::EventAreas;
+use macroblock::{PredictedRequest, Request};
+use plane::{Geometry, MacroblockPlace, Samples, SourceSize};
 
 // Searches for a macroblock and codes it against a lent prediction: 1, 2, 3, 4, 5, 6, 7, 8, 10, 11, 12, 14. Any first_method but 0 is
 // the first method.
@@ -78,10 +80,27 @@ pub fn hencouch_code_macroblock(
     };
     let size = SourceSize { width, height };
     let place = MacroblockPlace { column, row };
-    let coded = macroblock::code_macroblock(
-        settings, reference, geometry, y, cb, cr, size, place, weights, pred_y, pred_cb, pred_cr,
-        lasts, runs, levels,
-    );
+    let source = Samples { y, cb, cr };
+    let prediction = Samples {
+        y: pred_y,
+        cb: pred_cb,
+        cr: pred_cr,
+    };
+    let request = Request {
+        settings,
+        reference,
+        geometry,
+        source,
+        size,
+        weights,
+        prediction,
+    };
+    let mut out = EventAreas {
+        lasts,
+        runs,
+        levels,
+    };
+    let coded = macroblock::code_macroblock(request, place, &mut out);
     areas::records::write_record(
         coded,
         vector,
@@ -155,10 +174,27 @@ pub fn hencouch_code_predicted_macroblock(
     let geometry = areas::numbers::reference_geometry(ref_width, ref_height, stride, chroma_stride);
     let size = SourceSize { width, height };
     let place = MacroblockPlace { column, row };
-    let coded = macroblock::code_predicted_macroblock(
-        settings, rounding, ref_y, ref_cb, ref_cr, geometry, y, cb, cr, size, place, weights,
-        lasts, runs, levels,
-    );
+    let reference = Samples {
+        y: ref_y,
+        cb: ref_cb,
+        cr: ref_cr,
+    };
+    let source = Samples { y, cb, cr };
+    let request = PredictedRequest {
+        settings,
+        rounding,
+        reference,
+        geometry,
+        source,
+        size,
+        weights,
+    };
+    let mut out = EventAreas {
+        lasts,
+        runs,
+        levels,
+    };
+    let coded = macroblock::code_predicted_macroblock(request, place, &mut out);
     areas::records::write_record(
         coded,
         vector,

@@ -1,15 +1,14 @@
 -- What the entry that searches and codes answers (rules M1 to M3), for every request.
 use Rattle.refusal.specs.declared.Refusal.{Refusal}
-use Rattle.std.specs.Prelude.{ℕ, cond, List, eqb, ℤ, replicate, Result}
-use Rattle.refusal.specs.Reply.{Reply, answer}
-use Rattle.refusal.specs.Reply.{done}
+use Rattle.std.specs.Prelude.{ℕ, cond, List, eqb, replicate, Result}
+use Rattle.refusal.specs.Reply.{Reply, answer, done}
 use Rattle.record.specs.declared.Record.{Record}
 use Rattle.record.specs.Zero.{zero_vector}
 use Rattle.full_search.specs.Block.{Block}
 use Rattle.search.specs.declared.SearchSettings.{SearchSettings}
 use Rattle.search.specs.declared.EstimatedFour.{EstimatedFour}
 use Rattle.search.specs.Estimate.{one_vector, four_vectors_of}
-use Rattle.reader.specs.Handed.{Areas, areas}
+use Rattle.reader.specs.Handed.{Areas}
 use Rattle.coding.specs.Coding.{areas_of, counts_of, luma_pattern_of, chroma_pattern_of}
 use Rattle.macroblock.specs.declared.Searched.{Searched}
 use Rattle.macroblock.specs.Request.{Request, residual, search_in, sought_in, quantising_in, reply_of}
@@ -55,8 +54,8 @@ pub record Answer : Type 0 where
   pub coded : Result Record Refusal
   pub areas : Areas
 
-abbrev pub answered : Result Record Refusal → List ℕ → List ℕ → List ℤ → Answer
-answered coded lasts runs levels = record { coded = coded; areas = areas lasts runs levels }
+abbrev pub answered : Result Record Refusal → Areas → Answer
+answered coded after = record { coded = coded; areas = after }
 
 -- by the reply: refused, the areas are as they were
 unfoldable pub answer_by : Reply → Request → Answer

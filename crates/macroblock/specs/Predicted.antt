@@ -1,13 +1,11 @@
 -- The entry that searches, predicts and codes: a call's arguments as one value, what turns it back, what it answers, and demand 3 of it.
 -- Its answer is that of the lent form to the prediction made here.
-use Rattle.std.specs.Prelude.{ℕ, ◌≡◌, List, ℤ, length}
+use Rattle.std.specs.Prelude.{ℕ, ◌≡◌, List, ℤ, length, Ok}
 use Rattle.refusal.specs.declared.Refusal.TheVariants.{Length}
-use Rattle.refusal.specs.Reply.{Reply}
-use Rattle.std.specs.Prelude.{Ok}
-use Rattle.refusal.specs.Reply.{unless, and_then}
+use Rattle.refusal.specs.Reply.{Reply, unless, and_then}
 use Rattle.plane.specs.declared.SourceSize.{SourceSize}
 use Rattle.plane.specs.declared.MacroblockPlace.{MacroblockPlace}
-use Rattle.plane.specs.Samples.{Samples, samples}
+use Rattle.plane.specs.Samples.{Samples, samples, lent_samples}
 use Rattle.plane.specs.Source.{source_reply}
 use Rattle.prediction.specs.declared.ReferenceGeometry.{ReferenceGeometry}
 use Rattle.prediction.specs.Luma.{mode_of, rounding_reply}
@@ -18,6 +16,7 @@ use Rattle.search.specs.Request.{macroblock, settings_reply}
 use Rattle.reader.specs.Handed.{Areas, areas}
 use Rattle.reader.specs.Prediction.{read_prediction}
 use Rattle.macroblock.specs.declared.PredictedLengths.{PredictedLengths}
+use Rattle.macroblock.specs.declared.PredictedRequest as lent
 use Rattle.macroblock.specs.declared.Searched.{Searched}
 use Rattle.macroblock.specs.declared.Settings.{Settings}
 use Rattle.macroblock.specs.Request.{Request, search_in, areas_long, choice_reply}
@@ -38,7 +37,7 @@ pub record PredictedRequest : Type 0 where
   -- the lent areas, as they are when the call begins
   pub areas : Areas
 
--- in the order of the entry's parameters
+-- from its parts, in the order in which C lends them
 abbrev pub predicted_request : Settings → ℕ → List ℕ → List ℕ → List ℕ → ReferenceGeometry → List ℕ → List ℕ → List ℕ
     → SourceSize → MacroblockPlace → List ℕ → List ℕ → List ℕ → List ℤ → PredictedRequest
 predicted_request settings rounding ry rcb rcr geometry y cb cr size place weights lasts runs levels =
@@ -52,6 +51,21 @@ predicted_request settings rounding ry rcb rcr geometry y cb cr size place weigh
       place = place;
       weights = weights;
       areas = areas lasts runs levels;
+    }
+
+-- what stands in a lent one, for the macroblock at a place
+abbrev pub lent_predicted : lent.PredictedRequest → MacroblockPlace → Areas → PredictedRequest
+lent_predicted q place a =
+    record {
+      settings = q.settings;
+      rounding = q.rounding;
+      reference = lent_samples q.reference;
+      geometry = q.geometry;
+      source = lent_samples q.source;
+      size = q.size;
+      place = place;
+      weights = q.weights.now;
+      areas = a;
     }
 
 -- ---- the prediction made here

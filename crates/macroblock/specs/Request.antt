@@ -1,9 +1,7 @@
 -- A call's arguments as one value, and what turns it back, in its order (rules O1 to O6): 1 2 3 4 5 6 7 8 10 11 12 14.
-use Rattle.std.specs.Prelude.{ℕ, Bool, ◌&&◌, List, eqb, ℤ, length}
+use Rattle.std.specs.Prelude.{ℕ, Bool, ◌&&◌, List, eqb, ℤ, length, Ok}
 use Rattle.refusal.specs.declared.Refusal.TheVariants.{Length, Choice}
-use Rattle.refusal.specs.Reply.{Reply}
-use Rattle.std.specs.Prelude.{Ok}
-use Rattle.refusal.specs.Reply.{unless, and_then}
+use Rattle.refusal.specs.Reply.{Reply, unless, and_then}
 use Rattle.refusal.specs.Bounds.{is_vector_count}
 use Rattle.refusal.specs.Test.{between}
 use Rattle.plane.specs.declared.Geometry.{Geometry}
@@ -19,9 +17,10 @@ use Rattle.full_search.specs.Block.{Block}
 use Rattle.search.specs.declared.SearchSettings.{SearchSettings}
 use Rattle.search.specs.Request.{settings_of, macroblock, settings_reply}
 use Rattle.reader.specs.Handed.{Areas, areas}
-use Rattle.plane.specs.Samples.{Samples, samples}
+use Rattle.plane.specs.Samples.{Samples, samples, lent_samples}
 use Rattle.coding.specs.Residual.{source_of, residual_of}
 use Rattle.coding.specs.Coding.{Quantising, quantising_of}
+use Rattle.macroblock.specs.declared.Request as lent
 use Rattle.macroblock.specs.declared.Settings.{Settings}
 use Rattle.macroblock.specs.declared.Lengths.{Lengths}
 
@@ -41,7 +40,7 @@ pub record Request : Type 0 where
   -- the lent areas, as they are when the call begins
   pub areas : Areas
 
--- in the order of the entry's parameters
+-- from its parts, in the order in which C lends them
 abbrev pub request : Settings → List ℕ → Geometry → List ℕ → List ℕ → List ℕ → SourceSize → MacroblockPlace
     → List ℕ → List ℕ → List ℕ → List ℕ → List ℕ → List ℕ → List ℤ → Request
 request settings reference geometry y cb cr size place weights py pcb pcr lasts runs levels =
@@ -57,6 +56,23 @@ request settings reference geometry y cb cr size place weights py pcb pcr lasts 
       weights = weights;
       prediction = samples py pcb pcr;
       areas = areas lasts runs levels;
+    }
+
+-- what stands in a lent one, for the macroblock at a place
+abbrev pub lent_request : lent.Request → MacroblockPlace → Areas → Request
+lent_request q place a =
+    record {
+      settings = q.settings;
+      reference = q.reference.now;
+      geometry = q.geometry;
+      y = q.source.y.now;
+      cb = q.source.cb.now;
+      cr = q.source.cr.now;
+      size = q.size;
+      place = place;
+      weights = q.weights.now;
+      prediction = lent_samples q.prediction;
+      areas = a;
     }
 
 -- ---- what a request speaks of

@@ -3,6 +3,7 @@ ghost use Rattle.std.specs.Prelude.{◌≡◌, ◌≤◌, length};
 ghost use Rattle.macroblock.specs.Activities.{mean_of, activity_of};
 
 // The mean of 256 samples without its fraction.
+#[tactic(auto, using(basis::proofs::Sums::summed_end))]
 fn mean(block: &[u8]) -> u32
     requires { length block.now ≡ 256 }
     ensures { (result ≡ mean_of block.now) × (result ≤ 255) }
@@ -14,6 +15,7 @@ fn mean(block: &[u8]) -> u32
     sum / 256
 }
 
+#[tactic(auto, using(basis::proofs::Sums::summed_end), unfolding(crate::specs::Activities::activity_of))]
 pub fn activity(block: &[u8]) -> u32
     requires { length block.now ≡ 256 }
     ensures { result ≡ activity_of block.now }

@@ -2,13 +2,15 @@
 #![tactic(auto)]
 
 ghost use Rattle.std.specs.Prelude.{◌≡◌, OnOk};
-ghost use Rattle.macroblock.specs.Request.{request};
+ghost use Rattle.coding.specs.Coding.{lent_areas, SameAreas};
+ghost use Rattle.macroblock.specs.Request.{lent_request};
 ghost use Rattle.macroblock.specs.Answer.{answered, answer_of};
 ghost use Rattle.macroblock.specs.Demand.{Demand};
-ghost use Rattle.macroblock.specs.Predicted.{predicted_request, predicted_answer_of, PredictedDemand};
+ghost use Rattle.macroblock.specs.Predicted.{lent_predicted, predicted_answer_of, PredictedDemand};
 ghost use Rattle.macroblock.specs.Activities.{intra_activity};
 
-use plane::{Geometry, MacroblockPlace, SourceSize};
+use coding::EventAreas;
+use plane::{Geometry, MacroblockPlace, Samples, SourceSize};
 use prediction::{PlaneLengths, ReferenceGeometry};
 use record::{MotionVector, Record};
 use refusal::Refusal;
@@ -29,6 +31,31 @@ pub struct Settings {
     pub first_method: bool,
     pub vectors: u32,
     pub scan: u32,
+}
+
+// What is coded, from what and by which settings, but for where the macroblock stands: the reference's luma, the source's planes, the
+// matrix of the first method, and the prediction that is lent.
+#[derive(Clone, Copy)]
+pub struct Request<'a> {
+    pub settings: Settings,
+    pub reference: &'a [u8],
+    pub geometry: Geometry,
+    pub source: Samples<'a>,
+    pub size: SourceSize,
+    pub weights: &'a [u8],
+    pub prediction: Samples<'a>,
+}
+
+// The same where the prediction is made here, from the reference's planes at a rounding type.
+#[derive(Clone, Copy)]
+pub struct PredictedRequest<'a> {
+    pub settings: Settings,
+    pub rounding: u8,
+    pub reference: Samples<'a>,
+    pub geometry: ReferenceGeometry,
+    pub source: Samples<'a>,
+    pub size: SourceSize,
+    pub weights: &'a [u8],
 }
 
 // The one vector and its sum; the four and theirs, all 0 where four were not searched for.
@@ -79,106 +106,34 @@ pub fn intra_activity(y: &[u8], size: SourceSize, place: MacroblockPlace) -> Res
 
 // Searches for a macroblock and codes it against a lent prediction: 1, 2, 3, 4, 5, 6, 7, 8, 10, 11, 12, 14. Where it is not refused,
 // demand 3 holds of the answer.
+#[tactic(auto, unfolding(crate::specs::Answer::answer_by))]
 pub fn code_macroblock(
-    settings: Settings,
-    reference: &[u8],
-    geometry: Geometry,
-    y: &[u8],
-    cb: &[u8],
-    cr: &[u8],
-    size: SourceSize,
+    request: Request<'_>,
     place: MacroblockPlace,
-    weights: &[u8],
-    pred_y: &[u8],
-    pred_cb: &[u8],
-    pred_cr: &[u8],
-    lasts: &mut [u8],
-    runs: &mut [u8],
-    levels: &mut [i32],
+    out: &mut EventAreas<'_>,
 ) -> Result<Record, Refusal>
-    ensures { let q = request settings reference.now geometry y.now cb.now cr.now size place
-        weights.now pred_y.now pred_cb.now pred_cr.now
-        lasts.old runs.old levels.old in
-        let a = answered result lasts.new runs.new levels.new in
+    ensures value { let q = lent_request request.entry place (lent_areas out.old) in
+        let a = answered result (lent_areas out.new) in
         (a ≡ answer_of q) × OnOk result (Demand 0 q a) }
+    ensures same_areas { SameAreas out.old out.new }
 {
-    let n = Lengths {
-        reference: reference.len(),
-        y: y.len(),
-        cb: cb.len(),
-        cr: cr.len(),
-        weights: weights.len(),
-        pred_y: pred_y.len(),
-        pred_cb: pred_cb.len(),
-        pred_cr: pred_cr.len(),
-        lasts: lasts.len(),
-        runs: runs.len(),
-        levels: levels.len(),
-    };
-    judge::request_reply(settings, geometry, size, place, weights, n)?;
-    Ok(ready::code_ready(
-        settings, reference, geometry, y, cb, cr, size, place, weights, pred_y, pred_cb, pred_cr,
-        lasts, runs, levels,
-    ))
+    judge::request_reply(request, place, out)?;
+    Ok(ready::code_ready(request, place, out))
 }
 
 // Searches for a macroblock, predicts it by the vectors found and codes it: 1, 2, 3, 4, 5, 6, 7, 8, 10, 11, 12, 14, 31. Where it is not
 // refused, demand 3 holds of the answer, and what is coded against is what the reader gets.
+#[tactic(auto, unfolding(crate::specs::Answer::answer_by))]
 pub fn code_predicted_macroblock(
-    settings: Settings,
-    rounding: u8,
-    reference_y: &[u8],
-    reference_cb: &[u8],
-    reference_cr: &[u8],
-    geometry: ReferenceGeometry,
-    y: &[u8],
-    cb: &[u8],
-    cr: &[u8],
-    size: SourceSize,
+    request: PredictedRequest<'_>,
     place: MacroblockPlace,
-    weights: &[u8],
-    lasts: &mut [u8],
-    runs: &mut [u8],
-    levels: &mut [i32],
+    out: &mut EventAreas<'_>,
 ) -> Result<Record, Refusal>
-    ensures { let n = predicted_request settings rounding reference_y.now reference_cb.now reference_cr.now geometry
-        y.now cb.now cr.now size place weights.now
-        lasts.old runs.old levels.old in
-        let a = answered result lasts.new runs.new levels.new in
+    ensures value { let n = lent_predicted request.entry place (lent_areas out.old) in
+        let a = answered result (lent_areas out.new) in
         (a ≡ predicted_answer_of n) × OnOk result (PredictedDemand n a) }
+    ensures same_areas { SameAreas out.old out.new }
 {
-    let n = PredictedLengths {
-        reference: PlaneLengths {
-            y: reference_y.len(),
-            cb: reference_cb.len(),
-            cr: reference_cr.len(),
-        },
-        source: PlaneLengths {
-            y: y.len(),
-            cb: cb.len(),
-            cr: cr.len(),
-        },
-        weights: weights.len(),
-        lasts: lasts.len(),
-        runs: runs.len(),
-        levels: levels.len(),
-    };
-    judge::predicted_reply(settings, rounding, geometry, size, place, weights, n)?;
-    Ok(predicted::code_predicted(
-        settings,
-        rounding,
-        reference_y,
-        reference_cb,
-        reference_cr,
-        geometry,
-        y,
-        cb,
-        cr,
-        size,
-        place,
-        weights,
-        lasts,
-        runs,
-        levels,
-    ))
+    judge::predicted_reply(request, place, out)?;
+    Ok(predicted::code_predicted(request, place, out))
 }

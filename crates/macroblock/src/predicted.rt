@@ -1,110 +1,88 @@
 // The work on a request whose prediction is made here and that is not refused: search, prediction, residual, events, record.
 ghost use Rattle.std.specs.Prelude.{◌≡◌};
-ghost use Rattle.plane.specs.Samples.{samples};
-ghost use Rattle.prediction.specs.Luma.{mode_of};
-ghost use Rattle.prediction.specs.Planes.{planes_of, lengths_in};
-ghost use Rattle.prediction.specs.Prediction.{motion_of, macroblock_prediction, prediction_reply};
-ghost use Rattle.reader.specs.Handed.{areas};
-ghost use Rattle.coding.specs.Coding.{areas_of};
+ghost use Rattle.plane.specs.Samples.{written_samples, SameSamples};
+ghost use Rattle.prediction.specs.Planes.{lengths_in};
+ghost use Rattle.coding.specs.Coding.{areas_of, lent_areas, SameAreas};
 ghost use Rattle.macroblock.specs.Request.{residual, quantising_in};
 ghost use Rattle.macroblock.specs.Answer.{record_of};
-ghost use Rattle.macroblock.specs.Predicted.{predicted_request, predicted_reply_of, predicting};
+ghost use Rattle.macroblock.specs.Predicted.{lent_predicted, predicted_reply_of, predicting};
+ghost use Rattle.macroblock.specs.Told.{prediction_by, prediction_reply_by};
 
-use crate::{Searched, Settings, ready};
-use plane::{MacroblockPlace, SourceSize};
-use prediction::ReferenceGeometry;
+use crate::{PredictedRequest, Request, Searched, ready};
+use coding::EventAreas;
+use plane::{MacroblockPlace, Samples, SamplesMut};
 use record::Record;
 
 // The prediction by the vectors found.
 fn predict_found(
-    settings: Settings,
-    rounding: u8,
-    found: Searched,
-    reference_y: &[u8],
-    reference_cb: &[u8],
-    reference_cr: &[u8],
-    geometry: ReferenceGeometry,
+    request: PredictedRequest<'_>,
     place: MacroblockPlace,
-    y: &mut [u8],
-    cb: &mut [u8],
-    cr: &mut [u8],
+    found: Searched,
+    out: &mut SamplesMut<'_>,
 )
-    requires { let reference = samples reference_y.now reference_cb.now reference_cr.now in
-        let out = samples y.old cb.old cr.old in
-        let motion = motion_of settings.vectors found.vector found.vectors in
-        prediction_reply (mode_of settings.mode settings.bpp) geometry (lengths_in reference) motion place rounding (lengths_in out) ≡ Ok tt }
-    ensures { let reference = samples reference_y.now reference_cb.now reference_cr.now in
-        let motion = motion_of settings.vectors found.vector found.vectors in
-        samples y.new cb.new cr.new
-        ≡ macroblock_prediction (mode_of settings.mode settings.bpp) (planes_of reference geometry) motion place rounding }
+    requires { prediction_reply_by request place found (lengths_in (written_samples out.old)) ≡ Ok tt }
+    ensures made { written_samples out.new ≡ prediction_by request.entry place found }
+    ensures same_samples { SameSamples out.old out.new }
 {
+    let settings = request.settings;
     let mode = prediction::mode_of(settings.mode, settings.bpp);
-    let one = found.vector;
-    let four = found.vectors;
-    let motion = prediction::motion_of(settings.vectors, one, four);
+    let motion = prediction::motion_of(settings.vectors, found.vector, found.vectors);
     prediction::predict_macroblock(
-        reference_y,
-        reference_cb,
-        reference_cr,
-        geometry,
+        request.reference,
+        request.geometry,
         mode,
         motion,
         place,
-        rounding,
-        y,
-        cb,
-        cr,
+        request.rounding,
+        out,
     )
     .unwrap();
 }
 
 // The record, with the events in the three areas.
+#[tactic(auto, unfolding(crate::specs::Answer::record_at, crate::specs::Predicted::made_prediction))]
 pub fn code_predicted(
-    settings: Settings,
-    rounding: u8,
-    reference_y: &[u8],
-    reference_cb: &[u8],
-    reference_cr: &[u8],
-    geometry: ReferenceGeometry,
-    y: &[u8],
-    cb: &[u8],
-    cr: &[u8],
-    size: SourceSize,
+    request: PredictedRequest<'_>,
     place: MacroblockPlace,
-    weights: &[u8],
-    lasts: &mut [u8],
-    runs: &mut [u8],
-    levels: &mut [i32],
+    out: &mut EventAreas<'_>,
 ) -> Record
-    requires { let n = predicted_request settings rounding reference_y.now reference_cb.now reference_cr.now geometry
-        y.now cb.now cr.now size place weights.now lasts.old runs.old levels.old in
-        predicted_reply_of n ≡ Ok tt }
-    ensures { let n = predicted_request settings rounding reference_y.now reference_cb.now reference_cr.now geometry
-        y.now cb.now cr.now size place weights.now
-        lasts.old runs.old levels.old in
-        let new = areas lasts.new runs.new levels.new in
-        (result ≡ record_of (predicting n)) × (new ≡ areas_of (quantising_in (predicting n)) (residual (predicting n))) }
+    requires { predicted_reply_of (lent_predicted request place (lent_areas out.old)) ≡ Ok tt }
+    ensures value { let q = predicting (lent_predicted request.entry place (lent_areas out.old)) in
+        (result ≡ record_of q) × (lent_areas out.new ≡ areas_of (quantising_in q) (residual q)) }
+    ensures same_areas { SameAreas out.old out.new }
 {
-    let luma = geometry.luma;
-    let found = ready::search_vectors(settings, y, size, place, reference_y, luma);
-    let mut made_y = [0u8; 256];
-    let mut made_cb = [0u8; 64];
-    let mut made_cr = [0u8; 64];
-    predict_found(
+    let PredictedRequest {
         settings,
-        rounding,
-        found,
-        reference_y,
-        reference_cb,
-        reference_cr,
+        reference,
         geometry,
-        place,
-        &mut made_y,
-        &mut made_cb,
-        &mut made_cr,
-    );
-    let counts = ready::code_residual(
-        settings, y, cb, cr, size, place, weights, &made_y, &made_cb, &made_cr, lasts, runs, levels,
-    );
+        source,
+        size,
+        weights,
+        ..
+    } = request;
+    let found = ready::search_vectors(settings, source.y, size, place, reference.y, geometry.luma);
+    let mut y = [0u8; 256];
+    let mut cb = [0u8; 64];
+    let mut cr = [0u8; 64];
+    let mut made = SamplesMut {
+        y: &mut y,
+        cb: &mut cb,
+        cr: &mut cr,
+    };
+    predict_found(request, place, found, &mut made);
+    let lending = Request {
+        settings,
+        reference: reference.y,
+        geometry: geometry.luma,
+        source,
+        size,
+        weights,
+        prediction: Samples {
+            y: &y,
+            cb: &cb,
+            cr: &cr,
+        },
+    };
+    let counts = ready::code_residual(lending, place, out);
     ready::record_with(found, counts)
 }

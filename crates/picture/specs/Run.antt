@@ -2,11 +2,9 @@
 -- 21, 22, 23.
 use Rattle.refusal.specs.declared.Refusal.{Refusal}
 use Rattle.macroblock.specs.Demand.{record_in}
-use Rattle.std.specs.Prelude.{ℕ, ◌+◌, ◌*◌, ◌/◌, ◌%◌, ◌^◌, ◌&&◌, List, ℤ, ◌==◌, nat_le, nat_lt, Result}
+use Rattle.std.specs.Prelude.{ℕ, ◌+◌, ◌*◌, ◌/◌, ◌%◌, ◌^◌, ◌&&◌, ◌==◌, nat_le, nat_lt, Result, Ok, Err}
 use Rattle.refusal.specs.declared.Refusal.TheVariants.{AfterLast, OtherSize, BeforeLast}
-use Rattle.refusal.specs.Reply.{Reply, answer}
-use Rattle.std.specs.Prelude.{Ok, Err}
-use Rattle.refusal.specs.Reply.{unless, done}
+use Rattle.refusal.specs.Reply.{Reply, answer, unless, done}
 use Rattle.record.specs.declared.Record.{Record}
 use Rattle.record.specs.Count.{events_in}
 use Rattle.plane.specs.declared.SourceSize.{SourceSize}
@@ -69,8 +67,8 @@ pub record StepAnswer : Type 0 where
   pub answer : Answer
   pub run : Run
 
-abbrev pub stepped_to : Result Record Refusal → Run → List ℕ → List ℕ → List ℤ → StepAnswer
-stepped_to coded run lasts runs levels = record { answer = answered coded lasts runs levels; run = run }
+abbrev pub stepped_to : Result Record Refusal → Run → Areas → StepAnswer
+stepped_to coded run after = record { answer = answered coded after; run = run }
 
 -- after an answer; refused, the run is as it went in
 abbrev pub step_to : Run → Answer → StepAnswer

@@ -2,14 +2,15 @@
 #![tactic(auto)]
 
 ghost use Rattle.std.specs.Prelude.{◌≡◌, nat_lt, OnOk};
-ghost use Rattle.macroblock.specs.Request.{request};
+ghost use Rattle.coding.specs.Coding.{lent_areas, SameAreas};
+ghost use Rattle.macroblock.specs.Request.{lent_request};
 ghost use Rattle.macroblock.specs.Demand.{Demand};
-ghost use Rattle.macroblock.specs.Predicted.{predicted_request, PredictedDemand};
+ghost use Rattle.macroblock.specs.Predicted.{lent_predicted, PredictedDemand};
 ghost use Rattle.picture.specs.Run.{macroblocks_in, open_of, next_place, run_reply, after, stepped_to, step_of, predicted_step_of, close_of};
 
-use macroblock::Settings;
-use plane::{Geometry, MacroblockPlace, SourceSize};
-use prediction::ReferenceGeometry;
+use coding::EventAreas;
+use macroblock::{PredictedRequest, Request};
+use plane::{MacroblockPlace, SourceSize};
 use record::Record;
 use refusal::{Refusal, Reply};
 
@@ -99,45 +100,16 @@ fn after(run: Run, given: Record) -> Run
 #[tactic(auto, unfolding(crate::specs::Run::step_of))]
 pub fn step(
     run: &mut Run,
-    settings: Settings,
-    reference: &[u8],
-    geometry: Geometry,
-    y: &[u8],
-    cb: &[u8],
-    cr: &[u8],
-    size: SourceSize,
-    weights: &[u8],
-    pred_y: &[u8],
-    pred_cb: &[u8],
-    pred_cr: &[u8],
-    lasts: &mut [u8],
-    runs: &mut [u8],
-    levels: &mut [i32],
+    request: Request<'_>,
+    out: &mut EventAreas<'_>,
 ) -> Result<Record, Refusal>
-    ensures { let q = request settings reference.now geometry y.now cb.now cr.now size (next_place run.old)
-        weights.now pred_y.now pred_cb.now pred_cr.now
-        lasts.old runs.old levels.old in
-        let a = stepped_to result run.new lasts.new runs.new levels.new in
+    ensures value { let q = lent_request request.entry (next_place run.old) (lent_areas out.old) in
+        let a = stepped_to result run.new (lent_areas out.new) in
         (a ≡ step_of run.old q) × OnOk result (Demand 0 q a.answer) }
+    ensures same_areas { SameAreas out.old out.new }
 {
-    run_reply(*run, size)?;
-    let record = macroblock::code_macroblock(
-        settings,
-        reference,
-        geometry,
-        y,
-        cb,
-        cr,
-        size,
-        next_place(*run),
-        weights,
-        pred_y,
-        pred_cb,
-        pred_cr,
-        lasts,
-        runs,
-        levels,
-    )?;
+    run_reply(*run, request.size)?;
+    let record = macroblock::code_macroblock(request, next_place(*run), out)?;
     *run = after(*run, record);
     Ok(record)
 }
@@ -148,45 +120,16 @@ pub fn step(
 #[tactic(auto, unfolding(crate::specs::Run::predicted_step_of))]
 pub fn step_predicted(
     run: &mut Run,
-    settings: Settings,
-    rounding: u8,
-    reference_y: &[u8],
-    reference_cb: &[u8],
-    reference_cr: &[u8],
-    geometry: ReferenceGeometry,
-    y: &[u8],
-    cb: &[u8],
-    cr: &[u8],
-    size: SourceSize,
-    weights: &[u8],
-    lasts: &mut [u8],
-    runs: &mut [u8],
-    levels: &mut [i32],
+    request: PredictedRequest<'_>,
+    out: &mut EventAreas<'_>,
 ) -> Result<Record, Refusal>
-    ensures { let n = predicted_request settings rounding reference_y.now reference_cb.now reference_cr.now geometry
-        y.now cb.now cr.now size (next_place run.old) weights.now
-        lasts.old runs.old levels.old in
-        let a = stepped_to result run.new lasts.new runs.new levels.new in
+    ensures value { let n = lent_predicted request.entry (next_place run.old) (lent_areas out.old) in
+        let a = stepped_to result run.new (lent_areas out.new) in
         (a ≡ predicted_step_of run.old n) × OnOk result (PredictedDemand n a.answer) }
+    ensures same_areas { SameAreas out.old out.new }
 {
-    run_reply(*run, size)?;
-    let record = macroblock::code_predicted_macroblock(
-        settings,
-        rounding,
-        reference_y,
-        reference_cb,
-        reference_cr,
-        geometry,
-        y,
-        cb,
-        cr,
-        size,
-        next_place(*run),
-        weights,
-        lasts,
-        runs,
-        levels,
-    )?;
+    run_reply(*run, request.size)?;
+    let record = macroblock::code_predicted_macroblock(request, next_place(*run), out)?;
     *run = after(*run, record);
     Ok(record)
 }

@@ -4,3 +4,5 @@ pub mod Reference
 pub mod Samples
 pub mod Source
 pub mod ToldHeld
+pub mod ToldRows
+pub mod ToldLent

@@ -1,10 +1,8 @@
 -- What turns an interpolation back, in its order (rules F4, F5, F8, F12, F14, O2, O3).
 use Rattle.refusal.specs.declared.Refusal.{Refusal}
-use Rattle.std.specs.Prelude.{ℕ, ◌+◌, ◌-◌, ◌*◌, Bool, ◌&&◌, ◌||◌, List, ltb, eqb, ℤ, pos, negsuc, length, Result}
+use Rattle.std.specs.Prelude.{ℕ, ◌+◌, ◌-◌, ◌*◌, Bool, ◌&&◌, ◌||◌, List, ltb, eqb, ℤ, pos, negsuc, length, Result, Ok}
 use Rattle.refusal.specs.declared.Refusal.TheVariants.{ReferenceSize, ReferenceBytes, Place, Length, Choice}
-use Rattle.refusal.specs.Reply.{Reply, answer}
-use Rattle.std.specs.Prelude.{Ok}
-use Rattle.refusal.specs.Reply.{unless, and_then}
+use Rattle.refusal.specs.Reply.{Reply, answer, unless, and_then}
 use Rattle.refusal.specs.Test.{between, in_range}
 use Rattle.record.specs.declared.MotionVector.{MotionVector}
 use Rattle.plane.specs.declared.Geometry.{Geometry}

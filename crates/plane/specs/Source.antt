@@ -1,10 +1,8 @@
 -- The source picture: its refusals, and a macroblock's blocks, past the right or bottom the last column or row repeated.
-use Rattle.std.specs.Prelude.{ℕ, ◌+◌, ◌*◌, ◌/◌, ◌%◌, Bool, ◌&&◌, List, leb, ltb, get_or}
+use Rattle.std.specs.Prelude.{ℕ, ◌+◌, ◌*◌, ◌/◌, ◌%◌, Bool, ◌&&◌, List, leb, ltb, get_or, Ok}
 use Rattle.basis.specs.Lists.{raster}
 use Rattle.refusal.specs.declared.Refusal.TheVariants.{SourceSide, SourcePlane, Place}
-use Rattle.refusal.specs.Reply.{Reply}
-use Rattle.std.specs.Prelude.{Ok}
-use Rattle.refusal.specs.Reply.{unless, and_then}
+use Rattle.refusal.specs.Reply.{Reply, unless, and_then}
 use Rattle.refusal.specs.Test.{between}
 use Rattle.plane.specs.declared.SourceSize.{SourceSize}
 use Rattle.plane.specs.declared.MacroblockPlace.{MacroblockPlace}

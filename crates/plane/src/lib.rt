@@ -12,6 +12,7 @@ use record::MotionVector;
 use refusal::{Refusal, Reply};
 
 mod copy;
+mod held;
 pub mod source;
 mod straight;
 
@@ -43,6 +44,22 @@ pub struct Site {
 pub struct SourceSize {
     pub width: usize,
     pub height: usize,
+}
+
+// Samples of luma, Cb and Cr that are read: a picture's planes, or a macroblock's 16 x 16 of luma and 8 x 8 of Cb and of Cr.
+#[derive(Clone, Copy)]
+pub struct Samples<'a> {
+    pub y: &'a [u8],
+    pub cb: &'a [u8],
+    pub cr: &'a [u8],
+}
+
+// The same, to be written.
+#[derive(Drop)]
+pub struct SamplesMut<'a> {
+    pub y: &'a mut [u8],
+    pub cb: &'a mut [u8],
+    pub cr: &'a mut [u8],
 }
 
 // In macroblocks.

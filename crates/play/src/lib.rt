@@ -2,16 +2,17 @@
 // Every answer comes from `clip` and `picture`, which are proved; no contract can say what is read or written.
 #![tactic(auto)]
 
-ghost use Rattle.std.specs.Prelude.{◌≡◌, ◌≤◌, length};
-ghost use Rattle.clip.specs.Header.{head_reply};
+ghost use Rattle.std.specs.Prelude.{◌≤◌};
 
 use clip::Head;
 use picture::Run;
 use plane::SourceSize;
 use refusal::{Refusal, Reply};
 use std::ops::ControlFlow;
+use taken::Taken;
 
 mod row;
+mod taken;
 
 // A clip's planes, each in the first places of its area.
 #[derive(Drop)]
@@ -29,20 +30,17 @@ fn source_size(head: Head) -> SourceSize {
     }
 }
 
-// 12, where the input does not fill the first n places.
-fn fill(input: i32, area: &mut [u8], n: usize) -> Reply
-    requires { n ≤ length area.old }
-{
-    refusal::require(row::read_first(input, area, n) == n, Refusal::Length)
+// 12, where the input does not fill the area.
+fn fill(input: i32, area: &mut [u8]) -> Reply {
+    let n = area.len();
+    refusal::require(io::read_full(input, area) == n, Refusal::Length)
 }
 
 // Every macroblock of the picture; whether all that was to be printed is written.
-fn play_rows(input: i32, head: Head, opened: Run, planes: &Planes) -> bool
-    requires { head_reply head ≡ Ok tt }
-{
+fn play_rows(input: i32, taken: Taken, opened: Run, planes: &Planes) -> bool {
     let mut run = opened;
-    for _row in 0..plane::source::macroblocks(head.height) {
-        if let ControlFlow::Break(written) = row::play_row(input, head, &mut run, planes) {
+    for _row in 0..plane::source::macroblocks(taken.head.height) {
+        if let ControlFlow::Break(written) = row::play_row(input, taken, &mut run, planes) {
             return written;
         }
     }
@@ -50,9 +48,8 @@ fn play_rows(input: i32, head: Head, opened: Run, planes: &Planes) -> bool
 }
 
 // A picture whose header is taken: its planes, then its macroblocks.
-fn play_picture(input: i32, head: Head) -> Result<bool, Refusal>
-    requires { head_reply head ≡ Ok tt }
-{
+fn play_picture(input: i32, taken: Taken) -> Result<bool, Refusal> {
+    let head = taken.head;
     let run = picture::open(source_size(head))?;
     let lengths = clip::plane_lengths(head);
     let mut planes = Planes {
@@ -61,11 +58,11 @@ fn play_picture(input: i32, head: Head) -> Result<bool, Refusal>
         cr: [0; 6336],
         reference: [0; 25344],
     };
-    fill(input, &mut planes.y, lengths.luma)?;
-    fill(input, &mut planes.cb, lengths.chroma)?;
-    fill(input, &mut planes.cr, lengths.chroma)?;
-    fill(input, &mut planes.reference, lengths.luma)?;
-    Ok(play_rows(input, head, run, &planes))
+    fill(input, &mut planes.y[..lengths.luma])?;
+    fill(input, &mut planes.cb[..lengths.chroma])?;
+    fill(input, &mut planes.cr[..lengths.chroma])?;
+    fill(input, &mut planes.reference[..lengths.luma])?;
+    Ok(play_rows(input, taken, run, &planes))
 }
 
 // A header cut short is 12, a whole one is judged before anything after it is read.
@@ -74,7 +71,7 @@ fn play_clip(input: i32) -> Result<bool, Refusal> {
     let mut bytes = [0u8; 8];
     let n = io::read_full(input, &mut bytes);
     let head = clip::read_header(&bytes, n)?;
-    play_picture(input, head)
+    play_picture(input, Taken { head })
 }
 
 // A clip from its first byte. Whether all that was to be printed is written.

@@ -1,12 +1,14 @@
 // A row of macroblocks: its predictions by one read, each step's line, and all its lines by one write.
-ghost use Rattle.std.specs.Prelude.{◌≡◌, ◌+◌, ◌*◌, ◌/◌, ◌≤◌, length};
-ghost use Rattle.clip.specs.Header.{head_reply};
+ghost use Rattle.std.specs.Prelude.{◌≡◌, ◌+◌, ◌*◌, ◌/◌, ◌≤◌, ◌++◌, [], length};
 
 use crate::Planes;
+use crate::taken::Taken;
+use arrayvec::ArrayVec;
 use clip::{Head, Text};
-use macroblock::Settings;
+use coding::EventAreas;
+use macroblock::{Request, Settings};
 use picture::Run;
-use plane::Geometry;
+use plane::{Geometry, Samples};
 use record::Record;
 use refusal::{Refusal, Reply};
 use std::ops::ControlFlow;
@@ -14,41 +16,20 @@ use std::ops::ControlFlow;
 // The descriptor of standard output.
 const STDOUT: i32 = 1;
 
-// A row's lines in the first `len` of the bytes, with room for twelve.
-#[derive(Drop)]
-struct Lines {
-    bytes: [u8; 2376],
-    len: usize,
-}
-
-// As many of the first n places as the input fills.
-pub fn read_first(input: i32, area: &mut [u8], n: usize) -> usize
-    requires { n ≤ length area.old }
-    ensures { (result ≤ n) × (length area.new ≡ length area.old) }
-{
-    io::read_full(input, &mut area[..n]).min(n)
-}
-
-// Whether the first n places are written.
-fn print_first(area: &[u8], n: usize) -> bool
-    requires { n ≤ length area.now }
-{
-    io::write_all(STDOUT, &area[..n])
-}
+// A row's lines, with room for twelve.
+type Lines = ArrayVec<u8, 2376>;
 
 pub fn print_refusal(why: Refusal) -> bool {
-    let line = clip::refusal_line(why);
-    print_first(&line.bytes, line.len)
+    io::write_all(STDOUT, clip::refusal_line(why).as_bytes())
 }
 
 // A line more, which has room.
-fn add_line(lines: &mut Lines, line: Text)
-    requires { (line.len ≤ 198) × (lines.old.len + 198 ≤ 2376) }
-    ensures { lines.new.len ≤ lines.old.len + 198 }
+fn add_line(lines: &mut Lines, line: &Text)
+    requires { length lines.old.items + 198 ≤ 2376 }
+    ensures added { lines.new.items ≡ lines.old.items ++ line.now }
+    ensures short { length lines.new.items ≤ length lines.old.items + 198 }
 {
-    let end = lines.len + line.len;
-    lines.bytes[lines.len..end].copy_from_slice(&line.bytes[..line.len]);
-    lines.len = end;
+    let _ = lines.try_extend_from_slice(line.as_bytes());
 }
 
 // bpp 8, second method, zigzag.
@@ -64,6 +45,15 @@ fn settings_of(head: Head) -> Settings {
     }
 }
 
+// The reference's rows stand one right after the other.
+fn geometry_of(head: Head) -> Geometry {
+    Geometry {
+        width: head.width,
+        height: head.height,
+        stride: head.width,
+    }
+}
+
 // The run's next macroblock against its prediction.
 fn step(
     head: Head,
@@ -71,33 +61,34 @@ fn step(
     planes: &Planes,
     prediction: &[u8; 384],
 ) -> Result<Record, Refusal> {
-    let geometry = Geometry {
-        width: head.width,
-        height: head.height,
-        stride: head.width,
-    };
     // The second method uses no weight.
     let weights = [16u8; 64];
     let mut lasts = [0u8; 384];
     let mut runs = [0u8; 384];
     let mut levels = [0i32; 384];
-    picture::step(
-        run,
-        settings_of(head),
-        &planes.reference,
-        geometry,
-        &planes.y,
-        &planes.cb,
-        &planes.cr,
-        crate::source_size(head),
-        &weights,
-        &prediction[..256],
-        &prediction[256..320],
-        &prediction[320..384],
-        &mut lasts,
-        &mut runs,
-        &mut levels,
-    )
+    let request = Request {
+        settings: settings_of(head),
+        reference: &planes.reference,
+        geometry: geometry_of(head),
+        source: Samples {
+            y: &planes.y,
+            cb: &planes.cb,
+            cr: &planes.cr,
+        },
+        size: crate::source_size(head),
+        weights: &weights,
+        prediction: Samples {
+            y: &prediction[..256],
+            cb: &prediction[256..320],
+            cr: &prediction[320..384],
+        },
+    };
+    let mut areas = EventAreas {
+        lasts: &mut lasts,
+        runs: &mut runs,
+        levels: &mut levels,
+    };
+    picture::step(run, request, &mut areas)
 }
 
 // The lines of as many macroblocks as there are whole predictions, up to one that is refused.
@@ -108,46 +99,41 @@ fn add_steps(
     predictions: &[u8],
     lines: &mut Lines,
 ) -> Reply
-    requires { (length predictions.now ≤ 4224) × (lines.old.len ≡ 0) }
-    ensures { lines.new.len ≤ 198 * (length predictions.now / 384) }
+    requires { (length predictions.now ≤ 4224) × (lines.old.items ≡ []) }
+    ensures { length lines.new.items ≤ 198 * (length predictions.now / 384) }
 {
     let (whole, _cut) = predictions.as_chunks::<384>();
     for prediction in whole {
         let place = picture::next_place(*run);
         let given = step(head, run, planes, prediction)?;
-        add_line(
-            lines,
-            clip::macroblock_line(place.column, place.row, given, head.vectors == 4),
-        );
+        let line = clip::macroblock_line(place.column, place.row, given, head.vectors == 4);
+        add_line(lines, &line);
     }
     Ok(())
 }
 
 // The lines of a row whose predictions may be cut short, those that are whole; then, where one is refused or missing, why.
-fn add_row(input: i32, head: Head, run: &mut Run, planes: &Planes, lines: &mut Lines) -> Reply
-    requires { (head_reply head ≡ Ok tt) × (lines.old.len ≡ 0) }
-    ensures { lines.new.len ≤ 2178 }
+#[tactic(auto, using(clip::proofs::Whole::small))]
+fn add_row(input: i32, taken: Taken, run: &mut Run, planes: &Planes, lines: &mut Lines) -> Reply
+    requires { lines.old.items ≡ [] }
+    ensures { length lines.new.items ≤ 2178 }
 {
+    let head = taken.head;
     let wanted = 384 * plane::source::macroblocks(head.width);
     let mut predictions = [0u8; 4224];
-    let n = read_first(input, &mut predictions, wanted);
+    let n = io::read_full(input, &mut predictions[..wanted]).min(wanted);
     add_steps(head, run, planes, &predictions[..n], lines)?;
     refusal::require(n == wanted, Refusal::Length)
 }
 
 // A row, and its refusal after its lines. Where the clip goes on all is written; where it ends here, whether all is.
-pub fn play_row(input: i32, head: Head, run: &mut Run, planes: &Planes) -> ControlFlow<bool>
-    requires { head_reply head ≡ Ok tt }
-{
-    let mut lines = Lines {
-        bytes: [0; 2376],
-        len: 0,
-    };
-    let reply = add_row(input, head, run, planes, &mut lines);
+pub fn play_row(input: i32, taken: Taken, run: &mut Run, planes: &Planes) -> ControlFlow<bool> {
+    let mut lines = Lines::new();
+    let reply = add_row(input, taken, run, planes, &mut lines);
     if let Err(why) = reply {
-        add_line(&mut lines, clip::refusal_line(why));
+        add_line(&mut lines, &clip::refusal_line(why));
     }
-    let written = print_first(&lines.bytes, lines.len);
+    let written = io::write_all(STDOUT, lines.as_slice());
     if reply.is_ok() && written {
         ControlFlow::Continue(())
     } else {

@@ -1,7 +1,6 @@
 -- What turns a prediction back where its mode is a number: 2 before 3 (rules F2, O1).
 use Rattle.std.specs.Prelude.{ℕ}
-use Rattle.refusal.specs.Reply.{Reply}
-use Rattle.refusal.specs.Reply.{and_then}
+use Rattle.refusal.specs.Reply.{Reply, and_then}
 use Rattle.record.specs.declared.MotionVector.{MotionVector}
 use Rattle.plane.specs.declared.Geometry.{Geometry}
 use Rattle.plane.specs.declared.Point.{Point}

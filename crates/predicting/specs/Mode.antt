@@ -1,9 +1,7 @@
 -- A mode that is a number.
-use Rattle.std.specs.Prelude.{ℕ}
+use Rattle.std.specs.Prelude.{ℕ, Ok}
 use Rattle.refusal.specs.declared.Refusal.TheVariants.{Mode}
-use Rattle.refusal.specs.Reply.{Reply}
-use Rattle.std.specs.Prelude.{Ok}
-use Rattle.refusal.specs.Reply.{unless}
+use Rattle.refusal.specs.Reply.{Reply, unless}
 use Rattle.refusal.specs.Bounds.{is_mode}
 
 -- 2: a mode that is neither 0, half samples, nor 1, quarter samples

@@ -1,7 +1,6 @@
 -- What turns the prediction of a macroblock back where its mode is a number: 2, then as the mode has it.
 use Rattle.std.specs.Prelude.{ℕ}
-use Rattle.refusal.specs.Reply.{Reply}
-use Rattle.refusal.specs.Reply.{and_then}
+use Rattle.refusal.specs.Reply.{Reply, and_then}
 use Rattle.plane.specs.declared.MacroblockPlace.{MacroblockPlace}
 use Rattle.prediction.specs.declared.PlaneLengths.{PlaneLengths}
 use Rattle.prediction.specs.declared.PvopMbMotion.{PvopMbMotion}

@@ -4,7 +4,7 @@
 ghost use Rattle.std.specs.Prelude.{◌≡◌, length};
 ghost use Rattle.refusal.specs.Reply.{answer, done};
 ghost use Rattle.plane.specs.Plane.{plane_of};
-ghost use Rattle.plane.specs.Samples.{samples};
+ghost use Rattle.plane.specs.Samples.{lent_samples, written_samples, SameSamples};
 ghost use Rattle.prediction.specs.Luma.{mode_of, predicted_block};
 ghost use Rattle.prediction.specs.Macroblock.{macroblock_luma};
 ghost use Rattle.prediction.specs.Planes.{planes_of, lengths_in};
@@ -14,7 +14,7 @@ ghost use Rattle.predicting.specs.Mode.{mode_number_reply};
 ghost use Rattle.predicting.specs.Luma.{luma_block_reply, luma_macroblock_reply};
 ghost use Rattle.predicting.specs.Samples.{macroblock_samples_reply};
 
-use plane::{Geometry, MacroblockPlace, Point, Site};
+use plane::{Geometry, MacroblockPlace, Point, Samples, SamplesMut, Site};
 use prediction::{BVopSampleMode, PvopMbMotion, ReferenceGeometry};
 use record::MotionVector;
 use refusal::{Refusal, Reply};
@@ -77,27 +77,22 @@ pub fn chroma_vector(mode: u32, motion: PvopMbMotion) -> Result<MotionVector, Re
 
 // All 384 samples of a macroblock.
 pub fn predict_macroblock(
-    ref_y: &[u8],
-    ref_cb: &[u8],
-    ref_cr: &[u8],
+    reference: Samples<'_>,
     geometry: ReferenceGeometry,
     mode: u32,
     bpp: u32,
     motion: PvopMbMotion,
     place: MacroblockPlace,
     rounding: u8,
-    y: &mut [u8],
-    cb: &mut [u8],
-    cr: &mut [u8],
+    out: &mut SamplesMut<'_>,
 ) -> Reply
-    ensures { let reference = samples ref_y.now ref_cb.now ref_cr.now in
-        let old = samples y.old cb.old cr.old in
-        let new = samples y.new cb.new cr.new in
-        (result ≡ macroblock_samples_reply mode bpp geometry (lengths_in reference) motion place rounding (lengths_in old))
-        × (new ≡ done result (macroblock_prediction (mode_of mode bpp) (planes_of reference geometry) motion place rounding) old) }
+    ensures value { result ≡ macroblock_samples_reply mode bpp geometry (lengths_in (lent_samples reference.entry))
+        motion place rounding (lengths_in (written_samples out.old)) }
+    ensures out_after { let planes = planes_of (lent_samples reference.entry) geometry in
+        written_samples out.new
+        ≡ done result (macroblock_prediction (mode_of mode bpp) planes motion place rounding) (written_samples out.old) }
+    ensures same_samples { SameSamples out.old out.new }
 {
     let units = sample_mode(mode, bpp)?;
-    prediction::predict_macroblock(
-        ref_y, ref_cb, ref_cr, geometry, units, motion, place, rounding, y, cb, cr,
-    )
+    prediction::predict_macroblock(reference, geometry, units, motion, place, rounding, out)
 }

@@ -1,13 +1,11 @@
 -- The chroma vector of a macroblock (7.6.5; for one vector Table 7-13), a component at a time: luma's vectors, in half or quarter
 -- samples, give one in half samples of chroma.
 use Rattle.refusal.specs.declared.Refusal.{Refusal}
-use Rattle.std.specs.Prelude.{ℕ, ◌+◌, ◌*◌, ◌/◌, ◌%◌, Bool, ◌&&◌, cond, eqb, leb, ℤ, pos, nat_abs, ◌+ℤ◌, ◌*ℤ◌, Result}
+use Rattle.std.specs.Prelude.{ℕ, ◌+◌, ◌*◌, ◌/◌, ◌%◌, Bool, ◌&&◌, cond, eqb, leb, ℤ, pos, nat_abs, ◌+ℤ◌, ◌*ℤ◌, Result, Ok}
 use Rattle.std.specs.Int.Signed.{quot_z}
 use Rattle.basis.specs.Signed.{signed}
 use Rattle.refusal.specs.declared.Refusal.TheVariants.{Place}
-use Rattle.refusal.specs.Reply.{Reply, answer}
-use Rattle.std.specs.Prelude.{Ok}
-use Rattle.refusal.specs.Reply.{unless}
+use Rattle.refusal.specs.Reply.{Reply, answer, unless}
 use Rattle.record.specs.declared.MotionVector.{MotionVector}
 use Rattle.plane.specs.Reference.{vector_in_range}
 use Rattle.quarter_sample.specs.Split.{split_quarter}

@@ -1,11 +1,9 @@
 -- What is predicted: the luma of a block by a vector in half or in quarter samples (7.6.2.1, 7.6.2.2). The one definition of it, on
 -- which search, coding and reader rest.
-use Rattle.std.specs.Prelude.{ℕ, cond, List, eqb, ℤ, pos, ◌*ℤ◌}
+use Rattle.std.specs.Prelude.{ℕ, cond, List, eqb, ℤ, pos, ◌*ℤ◌, Ok}
 use Rattle.basis.specs.Lists.{raster}
 use Rattle.refusal.specs.declared.Refusal.TheVariants.{RoundingType}
-use Rattle.refusal.specs.Reply.{Reply}
-use Rattle.std.specs.Prelude.{Ok}
-use Rattle.refusal.specs.Reply.{unless, and_then}
+use Rattle.refusal.specs.Reply.{Reply, unless, and_then}
 use Rattle.refusal.specs.Bounds.{is_rounding_type}
 use Rattle.record.specs.declared.MotionVector.{MotionVector}
 use Rattle.plane.specs.declared.Geometry.{Geometry}

@@ -1,9 +1,7 @@
 -- The luma of a macroblock: one vector is one 16 x 16 block, four are four 8 x 8 blocks, 0 and 1 above 2 and 3.
-use Rattle.std.specs.Prelude.{ℕ, ◌+◌, ◌*◌, ◌/◌, ◌%◌, List, [], ◌∷◌, get_or}
+use Rattle.std.specs.Prelude.{ℕ, ◌+◌, ◌*◌, ◌/◌, ◌%◌, List, [], ◌∷◌, get_or, Ok}
 use Rattle.basis.specs.Lists.{raster}
-use Rattle.refusal.specs.Reply.{Reply}
-use Rattle.std.specs.Prelude.{Ok}
-use Rattle.refusal.specs.Reply.{and_then}
+use Rattle.refusal.specs.Reply.{Reply, and_then}
 use Rattle.record.specs.declared.MotionVector.{MotionVector}
 use Rattle.record.specs.Zero.{zero_vector}
 use Rattle.plane.specs.declared.Geometry.{Geometry}

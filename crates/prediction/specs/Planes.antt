@@ -1,7 +1,6 @@
 -- The reference's three planes: luma, and Cb and Cr, whose sides are half of luma's, rounded up, and whose rows are one stride apart.
 use Rattle.std.specs.Prelude.{length}
-use Rattle.refusal.specs.Reply.{Reply}
-use Rattle.refusal.specs.Reply.{and_then}
+use Rattle.refusal.specs.Reply.{Reply, and_then}
 use Rattle.plane.specs.declared.Geometry.{Geometry}
 use Rattle.plane.specs.Plane.{Plane, plane_of, geometry_of}
 use Rattle.plane.specs.Reference.{reference_size_reply, reference_bytes_reply}

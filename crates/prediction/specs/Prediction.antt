@@ -1,9 +1,7 @@
 -- The 384 samples of a macroblock, predicted from its vector or its four, three planes and a rounding type.
-use Rattle.std.specs.Prelude.{ℕ, cond, ◌&&◌, List, eqb, get_or}
+use Rattle.std.specs.Prelude.{ℕ, cond, ◌&&◌, List, eqb, get_or, Ok}
 use Rattle.refusal.specs.declared.Refusal.TheVariants.{Length}
-use Rattle.refusal.specs.Reply.{Reply}
-use Rattle.std.specs.Prelude.{Ok}
-use Rattle.refusal.specs.Reply.{unless, and_then}
+use Rattle.refusal.specs.Reply.{Reply, unless, and_then}
 use Rattle.record.specs.declared.MotionVector.{MotionVector}
 use Rattle.record.specs.Zero.{zero_vector}
 use Rattle.plane.specs.declared.MacroblockPlace.{MacroblockPlace}

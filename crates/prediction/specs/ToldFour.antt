@@ -1,6 +1,5 @@
 -- Told, not believed: four blocks that are not turned back, and where their samples go.
-use Rattle.std.specs.Prelude.{ℕ, ◌+◌, ◌*◌, ◌/◌, ◌%◌, ◌<◌, true, List, ◌≡◌, get_or}
-use Rattle.std.specs.Prelude.{Ok}
+use Rattle.std.specs.Prelude.{ℕ, ◌+◌, ◌*◌, ◌/◌, ◌%◌, ◌<◌, true, List, ◌≡◌, get_or, Ok}
 use Rattle.record.specs.declared.MotionVector.{MotionVector}
 use Rattle.record.specs.Zero.{zero_vector}
 use Rattle.plane.specs.declared.Geometry.{Geometry}

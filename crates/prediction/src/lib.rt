@@ -4,14 +4,14 @@
 ghost use Rattle.std.specs.Prelude.{◌≡◌, length};
 ghost use Rattle.refusal.specs.Reply.{done};
 ghost use Rattle.plane.specs.Plane.{plane_of};
-ghost use Rattle.plane.specs.Samples.{samples};
+ghost use Rattle.plane.specs.Samples.{lent_samples, written_samples, SameSamples};
 ghost use Rattle.prediction.specs.Luma.{mode_of, predicted_block, interpolation_reply, rounding_reply, predict_reply};
 ghost use Rattle.prediction.specs.Macroblock.{macroblock_luma, mode_reply, motions_reply, macroblock_reply};
 ghost use Rattle.prediction.specs.Chroma.{chroma_vector_of};
 ghost use Rattle.prediction.specs.Planes.{planes_of, lengths_in, planes_reply};
 ghost use Rattle.prediction.specs.Prediction.{motion_of, macroblock_prediction, prediction_reply};
 
-use plane::{Geometry, MacroblockPlace, Point, Site};
+use plane::{Geometry, MacroblockPlace, Point, Samples, SamplesMut, Site};
 use record::MotionVector;
 use refusal::{Refusal, Reply};
 
@@ -279,47 +279,54 @@ fn prediction_reply(
     rounding_reply(rounding)
 }
 
-// How long each of three lists is.
-fn lengths(y: &[u8], cb: &[u8], cr: &[u8]) -> PlaneLengths
-    ensures { result ≡ lengths_in (samples y.now cb.now cr.now) }
+// How long each of three areas that are read is.
+pub fn plane_lengths(planes: Samples<'_>) -> PlaneLengths
+    ensures { result ≡ lengths_in (lent_samples planes.entry) }
 {
     PlaneLengths {
-        y: y.len(),
-        cb: cb.len(),
-        cr: cr.len(),
+        y: planes.y.len(),
+        cb: planes.cb.len(),
+        cr: planes.cr.len(),
+    }
+}
+
+// And of three that are written.
+fn room(samples: &SamplesMut<'_>) -> PlaneLengths
+    ensures { result ≡ lengths_in (written_samples samples.now) }
+{
+    PlaneLengths {
+        y: samples.y.len(),
+        cb: samples.cb.len(),
+        cr: samples.cr.len(),
     }
 }
 
 // All 384 samples of a macroblock, each block row by row, luma as its mode has it, then Cb and Cr by the chroma vector: 3 in quarter
 // mode, then 4, 5, 8, 12, 31.
 pub fn predict_macroblock(
-    reference_y: &[u8],
-    reference_cb: &[u8],
-    reference_cr: &[u8],
+    reference: Samples<'_>,
     geometry: ReferenceGeometry,
     mode: BVopSampleMode,
     motion: PvopMbMotion,
     place: MacroblockPlace,
     rounding: u8,
-    y: &mut [u8],
-    cb: &mut [u8],
-    cr: &mut [u8],
+    out: &mut SamplesMut<'_>,
 ) -> Reply
-    ensures { let reference = samples reference_y.now reference_cb.now reference_cr.now in
-        let old = samples y.old cb.old cr.old in
-        let new = samples y.new cb.new cr.new in
-        (result ≡ prediction_reply mode geometry (lengths_in reference) motion place rounding (lengths_in old))
-        × (new ≡ done result (macroblock_prediction mode (planes_of reference geometry) motion place rounding) old) }
+    ensures value { result ≡ prediction_reply mode geometry (lengths_in (lent_samples reference.entry))
+        motion place rounding (lengths_in (written_samples out.old)) }
+    ensures out_after { let planes = planes_of (lent_samples reference.entry) geometry in
+        written_samples out.new ≡ done result (macroblock_prediction mode planes motion place rounding) (written_samples out.old) }
+    ensures same_samples { SameSamples out.old out.new }
 {
-    let reference = lengths(reference_y, reference_cb, reference_cr);
-    let out = lengths(y, cb, cr);
-    prediction_reply(mode, geometry, reference, motion, place, rounding, out)?;
+    let bytes = plane_lengths(reference);
+    let areas = room(out);
+    prediction_reply(mode, geometry, bytes, motion, place, rounding, areas)?;
     let luma = geometry.luma;
     let chroma = planes::chroma_geometry(geometry);
     let corner = planes::corner_at(16, place);
     let vector = chroma::vector_of(mode, motion);
-    predict_ready(reference_y, luma, mode, motion, corner, rounding, y);
-    planes::predict_chroma(reference_cb, chroma, place, vector, rounding, cb);
-    planes::predict_chroma(reference_cr, chroma, place, vector, rounding, cr);
+    predict_ready(reference.y, luma, mode, motion, corner, rounding, out.y);
+    planes::predict_chroma(reference.cb, chroma, place, vector, rounding, out.cb);
+    planes::predict_chroma(reference.cr, chroma, place, vector, rounding, out.cr);
     Ok(())
 }

@@ -1,11 +1,9 @@
 -- Blocks of 64, and what turns a call back (rules F10 to F13, O4).
 -- A weight stands at its coefficient's own place, as in the Rust.
-use Rattle.std.specs.Prelude.{ℕ, Bool, cond, not, ◌&&◌, ◌||◌, List, eqb, ℤ, pos, negsuc, length, get_or}
+use Rattle.std.specs.Prelude.{ℕ, Bool, cond, not, ◌&&◌, ◌||◌, List, eqb, ℤ, pos, negsuc, length, get_or, Ok}
 use Rattle.basis.specs.Lists.{tabulate}
 use Rattle.refusal.specs.declared.Refusal.TheVariants.{Quantiser, Weight, Length, Range}
-use Rattle.refusal.specs.Reply.{Reply}
-use Rattle.std.specs.Prelude.{Ok}
-use Rattle.refusal.specs.Reply.{unless, and_then}
+use Rattle.refusal.specs.Reply.{Reply, unless, and_then}
 use Rattle.refusal.specs.Bounds.{is_quantiser}
 use Rattle.std.specs.List.{list_all}
 use Rattle.refusal.specs.Test.{all_in_range}

@@ -1,10 +1,8 @@
 -- The block predicted by a vector in quarter samples (7.6.2.2), and what turns it back.
-use Rattle.std.specs.Prelude.{ℕ, ◌+◌, ◌*◌, ◌%◌, List, ◌+ℤ◌}
+use Rattle.std.specs.Prelude.{ℕ, ◌+◌, ◌*◌, ◌%◌, List, ◌+ℤ◌, Ok}
 use Rattle.basis.specs.Lists.{raster}
 use Rattle.refusal.specs.declared.Refusal.TheVariants.{BitsPerPixel}
-use Rattle.refusal.specs.Reply.{Reply}
-use Rattle.std.specs.Prelude.{Ok}
-use Rattle.refusal.specs.Reply.{unless, and_then}
+use Rattle.refusal.specs.Reply.{Reply, unless, and_then}
 use Rattle.refusal.specs.Bounds.{is_bits}
 use Rattle.record.specs.declared.MotionVector.{MotionVector}
 use Rattle.plane.specs.declared.Geometry.{Geometry}

@@ -1,7 +1,6 @@
 -- Told, not believed: the two passes over a copied block, one an axis, and what they need.
-use Rattle.std.specs.Prelude.{ℕ, ◌+◌, ◌*◌, ◌<◌, ◌≤◌, cond, List, ◌≡◌, eqb, ℤ, pos, ◌-ℤ◌, length, get_or}
+use Rattle.std.specs.Prelude.{ℕ, ◌+◌, ◌*◌, ◌<◌, ◌≤◌, cond, List, ◌≡◌, eqb, ℤ, pos, ◌-ℤ◌, length, get_or, Ok}
 use Rattle.basis.specs.Lists.{raster}
-use Rattle.std.specs.Prelude.{Ok}
 use Rattle.record.specs.declared.MotionVector.{MotionVector}
 use Rattle.plane.specs.declared.Geometry.{Geometry}
 use Rattle.plane.specs.declared.Site.{Site}

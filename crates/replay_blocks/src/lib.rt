@@ -3,6 +3,10 @@
 // to stay so.
 #![tactic(auto)]
 
+ghost use Rattle.std.specs.Prelude.{◌≡◌, false, get_or};
+ghost use Rattle.refusal.specs.Test.{between};
+ghost use Rattle.replay_blocks.specs.Entries.{is_own};
+
 mod chroma;
 mod levels;
 mod luma;
@@ -11,7 +15,9 @@ mod sample;
 mod source;
 
 // The entries 1 to 10, by the header's order.
-fn of_samples(call: &[u8], entry: u8) -> bool {
+fn of_samples(call: &[u8], entry: u8) -> bool
+    ensures { between 1 10 entry ≡ false → result ≡ false }
+{
     match entry {
         1 => sample::interpolate_block_into(call),
         2 => sample::interpolate_block_qpel_into(call),
@@ -28,7 +34,9 @@ fn of_samples(call: &[u8], entry: u8) -> bool {
 }
 
 // The entries 1 to 19 and 32 to 35: false for any other.
-pub fn replay(call: &[u8]) -> bool {
+pub fn replay(call: &[u8]) -> bool
+    ensures { is_own (get_or call.now 0 0) ≡ false → result ≡ false }
+{
     let entry = stored::entry(call);
     match entry {
         11 => levels::forward_dct_8x8(call),

@@ -3,13 +3,18 @@
 // to stay so.
 #![tactic(auto)]
 
+ghost use Rattle.std.specs.Prelude.{◌≡◌, false, get_or};
+ghost use Rattle.replay_pictures.specs.Entries.{is_own};
+
 mod lent;
 mod predicted;
 mod run;
 mod whole;
 
 // The entries 27 to 31, 36 and 37, by the header's order: false for any other.
-pub fn replay(call: &[u8]) -> bool {
+pub fn replay(call: &[u8]) -> bool
+    ensures { is_own (get_or call.now 0 0) ≡ false → result ≡ false }
+{
     match stored::entry(call) {
         27 => whole::code_macroblock(call),
         28 => run::open(call),

@@ -1,10 +1,8 @@
 -- What turns a call back (rules F12 to F14, O5), and the answer on events.
 use Rattle.refusal.specs.declared.Refusal.{Refusal}
-use Rattle.std.specs.Prelude.{ℕ, ◌&&◌, List, eqb, ℤ, pos, negsuc, length, Result}
+use Rattle.std.specs.Prelude.{ℕ, ◌&&◌, List, eqb, ℤ, pos, negsuc, length, Result, Ok}
 use Rattle.refusal.specs.declared.Refusal.TheVariants.{Length, Range, Choice}
-use Rattle.refusal.specs.Reply.{Reply, answer}
-use Rattle.std.specs.Prelude.{Ok}
-use Rattle.refusal.specs.Reply.{unless}
+use Rattle.refusal.specs.Reply.{Reply, answer, unless}
 use Rattle.refusal.specs.Test.{between, all_in_range}
 use Rattle.scan.specs.Event.{events_of}
 

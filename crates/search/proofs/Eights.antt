@@ -7,13 +7,13 @@ use lib.IntN.{ℤ, pos, ◌+ℤ◌}
 use lib.ListN.{get_or}
 use Rattle.basis.specs.Lists.{tabulate, raster}
 use Rattle.basis.specs.Parts.{above, below}
-use Rattle.basis.proofs.Lists.{raster_cong, get_or-raster}
+use Rattle.basis.proofs.Lists.{raster_cong, get_or-raster, length-raster}
 use Rattle.basis.proofs.Parts.{above-add, below-add}
 use Rattle.std.specs.Prelude.{Ok}
 use Rattle.record.specs.declared.MotionVector.{MotionVector}
 use Rattle.plane.specs.declared.Geometry.{Geometry}
 use Rattle.plane.specs.declared.Point.{Point}
-use Rattle.plane.specs.Corner.{block_corner}
+use Rattle.plane.specs.Corner.{corner_of, block_corner}
 use Rattle.plane.specs.Plane.{Plane, plane_of, copied, copied_block}
 use Rattle.plane.specs.Reference.{reference_reply}
 use Rattle.plane.specs.Source.{eight_of}
@@ -21,20 +21,28 @@ use Rattle.plane.proofs.Inside.{sample_inside}
 use Rattle.plane.proofs.Ready.{reference_done}
 use Rattle.prediction.specs.Luma.{whole_vector}
 use Rattle.full_search.specs.declared.Scored.{Scored}
+use Rattle.full_search.specs.declared.Sought.{Sought}
 use Rattle.full_search.specs.declared.Target.{Target}
-use Rattle.full_search.specs.Block.{Block, eight, block_in, block_of, copied_sum}
+use Rattle.full_search.specs.Block.{Block, eight, block_in, block_of, lent_block, copied_sum}
 use Rattle.full_search.specs.Full.{four_winner}
-use Rattle.full_search.specs.Told.{Inside}
+use Rattle.full_search.specs.Told.{Within, Inside, Ready}
+use Rattle.full_search.specs.Won.{eight_best, eight_won}
+use Rattle.full_search.proofs.Moves.{wider}
+use Rattle.full_search.proofs.Near.{four_within}
+use Rattle.full_search.proofs.Taken.{eight-won}
 use Rattle.full_search.proofs.EqualSums.{differences_cong}
 use Rattle.search.specs.declared.SearchSettings.{SearchSettings}
 use Rattle.search.specs.declared.EstimatedFour.{EstimatedFour}
 use Rattle.search.specs.Range.{window}
+use Rattle.search.specs.Request.{SearchRequest, sought}
 use Rattle.search.specs.Sums.{vector_sum}
 use Rattle.search.specs.Sub.{refined}
 use Rattle.search.specs.Estimate.{block_vector, four_vectors_of}
-use Rattle.search.specs.Told.{Placed, eight_target}
-use Rattle.search.proofs.SourceBlock.{given, laid}
+use Rattle.search.specs.Told.{Placed, Copied, EightSought, eight_target}
+use Rattle.search.proofs.InRange.{in_interpolation}
+use Rattle.search.proofs.SourceBlock.{given, laid, samples_of, copied_is}
 use Rattle.search.proofs.WholeSums.{copied_whole, source_sums}
+use Rattle.search.proofs.Windows.{window_most}
 
 -- ---- a copy of block n
 
@@ -94,6 +102,40 @@ module _ (s : SearchSettings) (seed : MotionVector) where
       (source_sums s 8 (part_of l n) p corner)
       ∙ ap (λ (side : ℕ). block_vector s seed (eight (block_in side l p t.corner) n)) (sym e)
 
+  -- ---- as a copy of block n of a macroblock that is sought finds it
+
+  module _ (b : Sought) (n : ℕ) (r : EightSought b n s seed) where
+    abbrev part : Block
+    part = block_of (eight_of b.source.now n) b.reference.now (eight_target b.target n)
+
+    pub part_ready : Ready (eight_of b.source.now n) b.reference.now (eight_target b.target n)
+    part_ready =
+        record {
+          is_side_is = refl;
+          source_fits = length-raster 8 8 (part_of b.source.now n);
+          reference = r.reference;
+          inside = eight_inside b.target.corner n r.placed r.block_is;
+        }
+
+    -- the full-sample search is not refused
+    pub part_best : (w : ℕ) → w ≡ window s
+        → eight_won (eight_of b.source.now n) b.reference.now (eight_target b.target n) s.mode w seed ≡ Ok (eight_best part s.mode (window s) seed)
+    part_best w e =
+        let f = r.settings.fcode_usable in
+        rw e
+        (eight-won (eight_of b.source.now n) b.reference.now (eight_target b.target n) (window s) seed s.mode part_ready refl (window_most s f)
+        (in_interpolation s.fcode seed f r.seed_in))
+
+    -- its winner can be refined
+    pub part_within : Within 4096 (eight_best part s.mode (window s) seed).vector
+    unfolding eight_best
+    part_within = wider (omega arith) (four_within (copied_sum part) (window s) s.mode seed (window_most s r.settings.fcode_usable))
+
+    -- to the block's vector
+    pub part_searched : refined (vector_sum s part) s (eight_best part s.mode (window s) seed).vector ≡ block_vector s seed (eight (lent_block b) n)
+    unfolding eight_best
+    part_searched = searched part ∙ copied_vector b.source.now b.reference.now b.target n r.sixteen
+
   -- ---- the four of a macroblock whose source is laid out as a list
 
   module _ (f : ℕ → ℕ → ℕ) (p : Plane) (corner : Point) where
@@ -127,3 +169,15 @@ module _ (s : SearchSettings) (seed : MotionVector) where
           vectors = (e i).vector ∷ (g i).vector ∷ (k i).vector ∷ (o i).vector ∷ [];
           sums = (e i).cost ∷ (g i).cost ∷ (k i).cost ∷ (o i).cost ∷ [];
         }
+
+  -- a copy of the macroblock that a search is for has its vectors
+  pub copied_eights : (q : SearchRequest) (l : Sought) → Copied q l
+      → let v = λ (n : ℕ). block_vector s seed (eight (lent_block l) n) in
+      ◌≡◌ {A = EstimatedFour}
+      (record {
+        vectors = (v 0).vector ∷ (v 1).vector ∷ (v 2).vector ∷ (v 3).vector ∷ [];
+        sums = (v 0).cost ∷ (v 1).cost ∷ (v 2).cost ∷ (v 3).cost ∷ [];
+      }) (four_vectors_of s seed (sought q))
+  copied_eights q l c =
+      let at = λ (n : ℕ). ap (λ (b : Block). block_vector s seed (eight b n)) (copied_is q l c) in
+      four_are (samples_of q) (plane_of q.reference q.geometry) (corner_of q.place) _ _ _ _ (at 0) (at 1) (at 2) (at 3)

@@ -1,21 +1,22 @@
 -- The half ring in half mode: the sums on windows of grids are those of the ring's vectors. Assumes nothing.
-use Prim.Native.Nat.{ℕ, zero, suc, ◌+◌, ◌-◌, ◌*◌, ◌/◌, ◌%◌, ◌<◌, ◌≤◌, min}
+use Prim.Native.Nat.{ℕ, zero, suc, ◌+◌, ◌-◌, ◌*◌, ◌/◌, ◌%◌, ◌<◌, ◌≤◌}
 use native.Mathlib.Nat.{add-mul, mul-le-mul_right}
 use native.Mathlib.Omega.{arith}
 use mathlib.Core.Bool.{Bool, true, false, not, ◌&&◌, ◌||◌}
 use mathlib.Core.List.{List}
-use mathlib.Core.Path.{◌≡◌, refl, sym, ap, ap₂, ◌∙◌}
-use borrow.Author.Tests.{eqb-true, eq-eqb, ne_eqb}
+use mathlib.Core.Path.{◌≡◌, refl, sym, ap, ◌∙◌}
+use borrow.Author.Tests.{eqb-true}
 use lib.Dec.{eqb}
 use lib.IntN.{ℤ, pos, negsuc, +ℤ_assoc, +ℤ_idr}
 use lib.ListN.{length}
 use Rattle.basis.specs.Cut.{cut_to}
 use Rattle.basis.specs.Division.{rest_z}
 use Rattle.basis.proofs.Cut.{cut_none}
+use Rattle.basis.proofs.Lists.{length-raster}
 use Rattle.refusal.specs.Test.{in_range}
 use Rattle.refusal.proofs.Tests.{and_left, and_right, range-low, range-high}
 use Rattle.record.specs.declared.MotionVector.{MotionVector}
-use Rattle.plane.specs.Plane.{plane_of, copied_block}
+use Rattle.plane.specs.Plane.{Plane, plane_of}
 use Rattle.plane.specs.Reference.{is_side}
 use Rattle.prediction.specs.declared.BVopSampleMode.{BVopSampleMode}
 use Rattle.prediction.specs.declared.BVopSampleMode.TheVariants.{HalfPel}
@@ -23,19 +24,22 @@ use Rattle.prediction.specs.Luma.{predicted_sample}
 use Rattle.plane.specs.Corner.{square_at}
 use Rattle.half_sample.specs.Block.{half_sample}
 use Rattle.half_sample.specs.Split.{half_of}
-use Rattle.half_sample.specs.Ring.{ring_corner, off_whole, read_from, ring_grid}
+use Rattle.half_sample.specs.Ring.{off_whole, read_from, ring_grid}
 use Rattle.half_sample.proofs.Grids.{ring-sample, centre_sample}
-use Rattle.full_search.specs.declared.Target.{Target}
-use Rattle.full_search.specs.Block.{Block, differences, row_by_row, block_of}
+use Rattle.full_search.specs.declared.Sought.{Sought}
+use Rattle.full_search.specs.Block.{Block, differences, row_by_row, lent_block}
 use Rattle.full_search.specs.Window.{window_at, window_sum_of}
 use Rattle.full_search.proofs.EqualSums.{differences_cong}
 use Rattle.full_search.proofs.Sides.{side_least}
 use Rattle.full_search.proofs.WindowSums.{window_sum_is}
 use Rattle.search.specs.declared.SearchSettings.{SearchSettings}
+use Rattle.search.specs.declared.half_grids.HalfGrids.{HalfGrids}
 use Rattle.search.specs.Range.{low, high, vector_in}
 use Rattle.search.specs.Sums.{vector_sum}
 use Rattle.search.specs.Sub.{stepped, neighbour}
-use Rattle.search.specs.ToldGrids.{half_sum, beside, free, grid_of, window_of, grid_sum, grid_size, RingSums}
+use Rattle.search.specs.Told.{SoughtReady}
+use Rattle.search.specs.ToldGrids.{half_sum, beside, free, grid_of, window_of, grid_sum, grid_size, patch_of}
+use Rattle.search.specs.ToldHalfGrids.{LentGrids}
 
 -- in half mode the sum of a vector is this one
 pub half_sums : (s : SearchSettings) (b : Block) → s.mode ≡ HalfPel → vector_sum s b ≡ half_sum s.rounding b
@@ -46,10 +50,6 @@ half_sums s b e = ap sum_by e
     sum_by m v = differences b.side b.source (predicted_sample m b.reference (square_at b.corner b.side) s.rounding v)
 
 -- ---- where windows stand
-
-pub read_least : (k : ℕ) → min k 1 ≡ read_from k
-read_least zero = refl
-read_least (suc k) = omega arith
 
 pub read_most : (k : ℕ) → read_from k ≤ 1
 read_most zero = omega arith
@@ -80,25 +80,6 @@ grid_shorter side =
 
 -- ---- which grid
 
-on_whole : (k : ℕ) → k ≡ 1 → off_whole k ≡ false
-on_whole k e = ap not (eq-eqb k 1 e)
-
-off_whole_lem : (k : ℕ) → (k ≡ 1 → ⊥) → off_whole k ≡ true
-off_whole_lem k h = ap not (ne_eqb k 1 h)
-
-module _ (side : ℕ) (source right under diagonal : List ℕ) (n : ℕ) where
-  abbrev sum_on : Bool → Bool → ℕ
-  sum_on hx hy = differences side (row_by_row side source) (window_at (grid_of hx hy right under diagonal) (window_of (side + 2) n) (side + 2))
-
-  pub sum_right : n / 3 ≡ 1 → sum_on (off_whole (n % 3)) false ≡ grid_sum side source right under diagonal n
-  sum_right e = ap (sum_on (off_whole (n % 3))) (sym (on_whole (n / 3) e))
-
-  pub sum_under : (n / 3 ≡ 1 → ⊥) → n % 3 ≡ 1 → sum_on false true ≡ grid_sum side source right under diagonal n
-  sum_under h e = ap₂ sum_on (sym (on_whole (n % 3) e)) (sym (off_whole_lem (n / 3) h))
-
-  pub sum_diagonal : (n / 3 ≡ 1 → ⊥) → (n % 3 ≡ 1 → ⊥) → sum_on true true ≡ grid_sum side source right under diagonal n
-  sum_diagonal h k = ap₂ sum_on (sym (off_whole_lem (n % 3) k)) (sym (off_whole_lem (n / 3) h))
-
 -- all places but the middle lie between samples
 some_off : (n : ℕ) → (n ≡ 4 → ⊥) → (off_whole (n % 3) || off_whole (n / 3)) ≡ true
 some_off n h = at (eqb (n % 3) 1) refl (eqb (n / 3) 1) refl
@@ -108,14 +89,14 @@ some_off n h = at (eqb (n % 3) 1) refl (eqb (n / 3) 1) refl
     at true p false q = refl
     at true p true q = absurd (h (omega (arith, eqb-true (n % 3) 1 p, eqb-true (n / 3) 1 q)))
 
--- the sum of the window of place n of a grid
-pub standing : (side : ℕ) (source grid : List ℕ) (n at : ℕ) → is_side side ≡ true → length source ≡ side * side → length grid ≡ grid_size side
-    → at ≡ window_of (side + 2) n
-    → window_sum_of source grid at (side + 2) side
-    ≡ differences side (row_by_row side source) (window_at grid (window_of (side + 2) n) (side + 2))
-standing side source grid n at h e f g =
-    ap (λ (k : ℕ). window_sum_of source grid k (side + 2) side) g
-    ∙ window_sum_is source grid (window_of (side + 2) n) (side + 2) side h e (omega (arith, window_within side n h))
+-- the sum of the window of place n of one of the grids
+pub standing : (g : HalfGrids) (grid : List ℕ) (n at : ℕ) → LentGrids g → length grid ≡ grid_size g.side → at ≡ window_of (g.side + 2) n
+    → window_sum_of g.source.now grid at (g.side + 2) g.side
+    ≡ differences g.side (row_by_row g.side g.source.now) (window_at grid (window_of (g.side + 2) n) (g.side + 2))
+standing g grid n at r f e =
+    let side = g.side in
+    ap (λ (k : ℕ). window_sum_of g.source.now grid k (side + 2) side) e
+    ∙ window_sum_is g.source.now grid (window_of (side + 2) n) (side + 2) side r.is_side_is r.source_fits (omega (arith, window_within side n r.is_side_is, f))
 
 -- ---- a start that is free
 
@@ -188,24 +169,28 @@ module _ (fcode : ℕ) (c : MotionVector) (f : free fcode c ≡ true) (e : vecto
 
   -- ---- the sums
 
-  module _ (t : Target) (rounding : ℕ) (source samples : List ℕ) where
-    abbrev patch_of : List ℕ
-    patch_of = copied_block (plane_of samples t.geometry) (ring_corner t.corner c) (t.side + 2) (t.side + 2)
+  module _ (b : Sought) (rounding : ℕ) where
+    abbrev side : ℕ
+    side = b.target.side
+
+    abbrev plane : Plane
+    plane = plane_of b.reference.now b.target.geometry
 
     abbrev grid_by : Bool → Bool → List ℕ
-    grid_by hx hy = ring_grid patch_of (t.side + 2) hx hy rounding (grid_size t.side)
+    grid_by hx hy = ring_grid (patch_of b c) (side + 2) hx hy rounding (grid_size side)
 
     -- in the middle of the patch is the start's block
-    pub start_sum : (patch : List ℕ) → is_side t.side ≡ true → length source ≡ t.side * t.side → length patch ≡ (t.side + 2) * (t.side + 2)
-        → patch ≡ patch_of → window_sum_of source patch (t.side + 3) (t.side + 2) t.side ≡ half_sum rounding (block_of source samples t) c
-    start_sum patch h k l q =
-        let side = t.side in
-        window_sum_is source patch (side + 3) (side + 2) side h k (omega (arith, centre_within side h))
-        ∙ differences_cong side (row_by_row side source) (row_by_row side source) (window_at patch (side + 3) (side + 2))
-        (half_sample (plane_of samples t.geometry) t.corner c rounding) (λ i j a b. refl)
-        (λ i j a b.
+    pub start_sum : (patch : List ℕ) → SoughtReady b → patch ≡ patch_of b c
+        → window_sum_of b.source.now patch (side + 3) (side + 2) side ≡ half_sum rounding (lent_block b) c
+    start_sum patch r q =
+        let source = row_by_row side b.source.now in
+        let long : length patch ≡ (side + 2) * (side + 2) = ap length q ∙ length-raster (side + 2) (side + 2) _ in
+        window_sum_is b.source.now patch (side + 3) (side + 2) side r.is_side_is r.source_fits (omega (arith, centre_within side r.is_side_is, long))
+        ∙ differences_cong side source source (window_at patch (side + 3) (side + 2)) (half_sample plane b.target.corner c rounding)
+        (λ i j h k. refl)
+        (λ i j h k.
         ap (λ (p : List ℕ). window_at p (side + 3) (side + 2) i j) q
-        ∙ centre_sample (plane_of samples t.geometry) t.corner c even_x even_y side rounding i j a b)
+        ∙ centre_sample plane b.target.corner c even_x even_y side rounding i j h k)
 
     -- and the windows of the grids are the ring's
     module _ (right under diagonal : List ℕ) (r : right ≡ grid_by true false) (u : under ≡ grid_by false true) (d : diagonal ≡ grid_by true true) where
@@ -215,17 +200,14 @@ module _ (fcode : ℕ) (c : MotionVector) (f : free fcode c ≡ true) (e : vecto
       grid_is true true h = d
       grid_is false false h = absurd (let z : ◌≡◌ {A = ℕ} 0 1 = cc in omega arith)
 
-      window_is : (n : ℕ) → n < 9 → (n ≡ 4 → ⊥) → (i j : ℕ) → i < t.side → j < t.side
-          → window_at (grid_of (off_whole (n % 3)) (off_whole (n / 3)) right under diagonal) (window_of (t.side + 2) n) (t.side + 2) i j
-          ≡ half_sample (plane_of samples t.geometry) t.corner (neighbour fcode 1 c n) rounding i j
-      window_is n h k i j a b =
-          let p = plane_of samples t.geometry in
-          ap (λ (g : List ℕ). window_at g (window_of (t.side + 2) n) (t.side + 2) i j) (grid_is (off_whole (n % 3)) (off_whole (n / 3)) (some_off n k))
-          ∙ ring-sample p t.corner c even_x even_y t.side rounding (n % 3) (n / 3) (omega arith) (omega arith) i j a b
-          ∙ ap (λ (v : MotionVector). half_sample p t.corner v rounding i j) (sym (neighbour-free n h))
+      window_is : (n : ℕ) → n < 9 → (n ≡ 4 → ⊥) → (i j : ℕ) → i < side → j < side
+          → window_at (grid_of (off_whole (n % 3)) (off_whole (n / 3)) right under diagonal) (window_of (side + 2) n) (side + 2) i j
+          ≡ half_sample plane b.target.corner (neighbour fcode 1 c n) rounding i j
+      window_is n h k i j l m =
+          ap (λ (g : List ℕ). window_at g (window_of (side + 2) n) (side + 2) i j) (grid_is (off_whole (n % 3)) (off_whole (n / 3)) (some_off n k))
+          ∙ ring-sample plane b.target.corner c even_x even_y side rounding (n % 3) (n / 3) (omega arith) (omega arith) i j l m
+          ∙ ap (λ (v : MotionVector). half_sample plane b.target.corner v rounding i j) (sym (neighbour-free n h))
 
-      pub ring_sums : RingSums t.side source right under diagonal fcode c (half_sum rounding (block_of source samples t))
-      ring_sums =
-          record {
-            each = λ n h k. differences_cong t.side _ _ _ _ (λ i j a b. refl) (window_is n h k);
-          }
+      pub ring_sums : (n : ℕ) → n < 9 → (n ≡ 4 → ⊥)
+          → grid_sum side b.source.now right under diagonal n ≡ half_sum rounding (lent_block b) (neighbour fcode 1 c n)
+      ring_sums n h k = differences_cong side _ _ _ _ (λ i j l m. refl) (window_is n h k)

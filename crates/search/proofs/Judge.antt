@@ -53,7 +53,7 @@ module _ (q : SearchRequest) where
 
   -- at any rounding type
   pub search_done : (rounding : ℕ) → search_reply q ≡ Ok tt
-      → Judged q.source q.size q.place q.reference q.geometry (settings_in rounding q)
+      → Judged q (settings_in rounding q)
   unfolding search_reply
   search_done rounding e =
       let r = reference_reply q.geometry (length q.reference) in
@@ -63,7 +63,7 @@ module _ (q : SearchRequest) where
 
   module _ (seed : MotionVector) (e : four_reply q seed ≡ Ok tt) where
     -- with four vectors the seed is in range too
-    pub four_done : (rounding : ℕ) → Judged q.source q.size q.place q.reference q.geometry (settings_in rounding q)
+    pub four_done : (rounding : ℕ) → Judged q (settings_in rounding q)
     unfolding four_reply
     four_done rounding = search_done rounding (first_done (search_reply q) (seed_reply q.fcode seed) e)
 

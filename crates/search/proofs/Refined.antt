@@ -13,12 +13,14 @@ use Rattle.prediction.specs.declared.BVopSampleMode.{BVopSampleMode}
 use Rattle.prediction.specs.declared.BVopSampleMode.TheVariants.{HalfPel, QuarterPel}
 use Rattle.prediction.specs.Luma.{units_per_pel, whole_vector}
 use Rattle.full_search.specs.declared.Scored.{Scored}
+use Rattle.full_search.specs.declared.Sought.{Sought}
 use Rattle.full_search.specs.Costs.{consider, at_cost}
 use Rattle.full_search.proofs.Kept.{search_best, search_more}
 use Rattle.search.specs.declared.SearchSettings.{SearchSettings}
 use Rattle.search.specs.Range.{vector_in}
 use Rattle.search.specs.Sub.{stepped, neighbour, ring, ring_step, rings, start, sub_rest, sub_list, refined}
-use Rattle.search.proofs.InRange.{clamped_in_lem}
+use Rattle.search.specs.Told.{Predictable, Ringed}
+use Rattle.search.proofs.InRange.{clamped_in_lem, in_interpolation}
 
 -- a sample has at most four vector units
 pub units_most : (m : BVopSampleMode) → units_per_pel m ≤ 4
@@ -59,7 +61,17 @@ In fcode v = vector_in fcode v ≡ true
 pub neighbour_in : (fcode step : ℕ) (c : MotionVector) (n : ℕ) → vector_in fcode (neighbour fcode step c n) ≡ true
 neighbour_in fcode step c n = clamped_in_lem fcode (record { x = stepped c.x step (n % 3); y = stepped c.y step (n / 3) })
 
--- and so is every entry of a ring
+-- and can be predicted
+pub ring_predictable : (b : Sought) (s : SearchSettings) (step : ℕ) (c : MotionVector) (n : ℕ) → Ringed b s step c
+    → Predictable b s (neighbour s.fcode step c n)
+ring_predictable b s step c n r =
+    record {
+      ready = r.ready;
+      mode_usable = r.settings.mode_usable;
+      vector_in_is = in_interpolation s.fcode _ r.settings.fcode_usable (neighbour_in s.fcode step c n);
+    }
+
+-- every entry of a ring is in range
 pub ring_in : (fcode step : ℕ) (c : MotionVector) → All (λ v. vector_in fcode v ≡ true) (ring fcode step c)
 unfolding ring All
 ring_in fcode step c = all_rows (In fcode) _ 9 (λ n p. at n (eqb n 4))

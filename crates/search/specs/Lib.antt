@@ -6,4 +6,5 @@ pub mod Estimate
 pub mod Demand
 pub mod Told
 pub mod ToldGrids
+pub mod ToldHalfGrids
 pub mod ToldRing

@@ -1,9 +1,7 @@
 -- A search's arguments as one value, what they speak of, and what turns them back, in their order (rules F1 to F9, O1).
-use Rattle.std.specs.Prelude.{ℕ, ◌||◌, List, eqb, length}
+use Rattle.std.specs.Prelude.{ℕ, ◌||◌, List, eqb, length, Ok}
 use Rattle.refusal.specs.declared.Refusal.TheVariants.{Fcode, Mode, BitsPerPixel, Seed}
-use Rattle.refusal.specs.Reply.{Reply}
-use Rattle.std.specs.Prelude.{Ok}
-use Rattle.refusal.specs.Reply.{unless, and_then}
+use Rattle.refusal.specs.Reply.{Reply, unless, and_then}
 use Rattle.refusal.specs.Bounds.{is_fcode, is_mode, is_bits}
 use Rattle.record.specs.declared.MotionVector.{MotionVector}
 use Rattle.plane.specs.declared.Geometry.{Geometry}
@@ -15,6 +13,7 @@ use Rattle.plane.specs.Reference.{reference_reply}
 use Rattle.plane.specs.Source.{packed, source_luma_reply}
 use Rattle.prediction.specs.Luma.{mode_of}
 use Rattle.full_search.specs.Block.{Block}
+use Rattle.search.specs.declared.SearchRequest as lent
 use Rattle.search.specs.declared.SearchSettings.{SearchSettings}
 use Rattle.search.specs.Range.{vector_in}
 
@@ -29,7 +28,7 @@ pub record SearchRequest : Type 0 where
   pub bpp : ℕ
   pub fcode : ℕ
 
--- in the order of the entries' parameters
+-- in the order of the request's fields
 abbrev pub search_request : List ℕ → SourceSize → MacroblockPlace → List ℕ → Geometry → ℕ → ℕ → ℕ → SearchRequest
 search_request source size place reference geometry mode bpp fcode =
     record {
@@ -42,6 +41,10 @@ search_request source size place reference geometry mode bpp fcode =
       bpp = bpp;
       fcode = fcode;
     }
+
+-- what stands in lent samples
+abbrev pub lent_search : lent.SearchRequest → SearchRequest
+lent_search q = search_request q.source.now q.size q.place q.reference.now q.geometry q.mode q.bpp q.fcode
 
 -- ---- what a request speaks of
 

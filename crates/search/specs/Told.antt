@@ -1,37 +1,43 @@
 -- Told, not believed: what the private functions here are told of settings, blocks and vectors.
-use Rattle.std.specs.Prelude.{ℕ, ◌<◌, ◌≤◌, true, List, ◌≡◌, ℤ, length}
+use Rattle.std.specs.Prelude.{ℕ, ◌<◌, ◌≤◌, true, ◌≡◌, ℤ, length, Ok}
 use Rattle.basis.specs.Parts.{above, below}
-use Rattle.std.specs.Prelude.{Ok}
 use Rattle.refusal.specs.Test.{between}
 use Rattle.record.specs.declared.MotionVector.{MotionVector}
 use Rattle.plane.specs.declared.Geometry.{Geometry}
 use Rattle.plane.specs.declared.Point.{Point}
-use Rattle.plane.specs.declared.SourceSize.{SourceSize}
 use Rattle.plane.specs.declared.MacroblockPlace.{MacroblockPlace}
 use Rattle.plane.specs.Corner.{corner_of, block_corner}
 use Rattle.plane.specs.Reference.{reference_reply, vector_in_range}
-use Rattle.plane.specs.Source.{source_luma_reply}
+use Rattle.plane.specs.Source.{source_luma_reply, source_luma}
 use Rattle.prediction.specs.Macroblock.{mode_reply}
+use Rattle.full_search.specs.declared.Sought.{Sought}
 use Rattle.full_search.specs.declared.Target.{Target}
 use Rattle.full_search.specs.Told.{Within, Ready}
 use Rattle.search.specs.declared.SearchSettings.{SearchSettings}
 use Rattle.search.specs.Range.{vector_in}
+use Rattle.search.specs.Request.{SearchRequest}
 
 -- what the settings have to be
 pub record Set (s : SearchSettings) : Type 0 where
   pub mode_usable : mode_reply s.mode ≡ Ok tt
   pub fcode_usable : between 1 7 s.fcode ≡ true
 
--- a macroblock that is not refused
-pub record Judged (y : List ℕ) (size : SourceSize) (at : MacroblockPlace) (samples : List ℕ) (g : Geometry) (s : SearchSettings) : Type 0 where
+-- a search that is not refused, with these settings
+pub record Judged (q : SearchRequest) (s : SearchSettings) : Type 0 where
   pub settings : Set s
-  pub reference : reference_reply g (length samples) ≡ Ok tt
-  pub luma : source_luma_reply size (length y) at ≡ Ok tt
+  pub reference : reference_reply q.geometry (length q.reference) ≡ Ok tt
+  pub luma : source_luma_reply q.size (length q.source) q.place ≡ Ok tt
 
 -- ---- where blocks stand
 
 abbrev pub macroblock_target : Geometry → MacroblockPlace → Target
 macroblock_target g at = record { geometry = g; corner = corner_of at; side = 16 }
+
+-- the macroblock that a search is for, its samples copied
+pub record Copied (q : SearchRequest) (b : Sought) : Type 0 where
+  pub source : b.source.now ≡ source_luma q.source q.size q.place
+  pub reference : b.reference.now ≡ q.reference
+  pub target : b.target ≡ macroblock_target q.geometry q.place
 
 -- 8 x 8 block n of the macroblock at a target
 abbrev pub eight_target : Target → ℕ → Target
@@ -44,21 +50,25 @@ pub record Placed (corner : Point) : Type 0 where
   pub y_most : above corner.y ≤ 4080
   pub y_least : below corner.y ≡ 0
 
--- what the search for one of a macroblock's four blocks is told
-pub record EightSought (macroblock : List ℕ) (n : ℕ) (samples : List ℕ) (t : Target) (s : SearchSettings) (seed : MotionVector) : Type 0 where
-  pub samples_fit : length macroblock ≡ 256
+-- what the search for one of the blocks of a macroblock that is sought is told
+pub record EightSought (macroblock : Sought) (n : ℕ) (s : SearchSettings) (seed : MotionVector) : Type 0 where
+  pub samples_fit : length macroblock.source.now ≡ 256
   pub block_is : n < 4
-  pub reference : reference_reply t.geometry (length samples) ≡ Ok tt
-  pub sixteen : t.side ≡ 16
-  pub placed : Placed t.corner
+  pub reference : reference_reply macroblock.target.geometry (length macroblock.reference.now) ≡ Ok tt
+  pub sixteen : macroblock.target.side ≡ 16
+  pub placed : Placed macroblock.target.corner
   pub settings : Set s
   pub seed_in : vector_in s.fcode seed ≡ true
 
 -- ---- what the refinement is told
 
+-- a source block and a usable reference, lent
+abbrev pub SoughtReady : Sought → Type 0
+SoughtReady b = Ready b.source.now b.reference.now b.target
+
 -- a vector whose prediction is not refused
-pub record Predictable (source samples : List ℕ) (t : Target) (s : SearchSettings) (v : MotionVector) : Type 0 where
-  pub ready : Ready source samples t
+pub record Predictable (b : Sought) (s : SearchSettings) (v : MotionVector) : Type 0 where
+  pub ready : SoughtReady b
   pub mode_usable : mode_reply s.mode ≡ Ok tt
   pub vector_in_is : vector_in_range v ≡ true
 
@@ -77,8 +87,8 @@ pub record Neighbouring (c : MotionVector) (fcode step n : ℕ) : Type 0 where
   pub place_is : n < 9
 
 -- a ring around a centre in range
-pub record Ringed (source samples : List ℕ) (t : Target) (s : SearchSettings) (step : ℕ) (centre : MotionVector) : Type 0 where
-  pub ready : Ready source samples t
+pub record Ringed (b : Sought) (s : SearchSettings) (step : ℕ) (centre : MotionVector) : Type 0 where
+  pub ready : SoughtReady b
   pub settings : Set s
   pub step_small : step ≤ 2
   pub centre_in : vector_in s.fcode centre ≡ true

@@ -1,21 +1,20 @@
 -- Told, not believed: the start and the half ring in half mode, summed on windows of a patch and of three grids.
-use Rattle.std.specs.Prelude.{ℕ, ◌+◌, ◌-◌, ◌*◌, ◌/◌, ◌%◌, ◌<◌, ◌≤◌, Bool, true, false, not, ◌&&◌, ◌||◌, ◌≡◌, ℤ, length}
-use mathlib.Core.List.{List, foldl}
+use Rattle.std.specs.Prelude.{ℕ, ◌+◌, ◌-◌, ◌*◌, ◌/◌, ◌%◌, ◌≤◌, Bool, true, false, not, ◌&&◌, ◌||◌, ◌≡◌, ℤ, length}
+use mathlib.Core.List.{List}
 use Rattle.basis.specs.Parts.{above, below}
 use Rattle.refusal.specs.Test.{between}
 use Rattle.record.specs.declared.MotionVector.{MotionVector}
+use Rattle.plane.specs.Plane.{plane_of, copied_block}
 use Rattle.plane.specs.Reference.{is_side}
 use Rattle.half_sample.specs.Block.{half_sample}
 use Rattle.half_sample.specs.Split.{half_of}
-use Rattle.half_sample.specs.Ring.{off_whole, read_from}
-use Rattle.full_search.specs.declared.Scored.{Scored}
-use Rattle.full_search.specs.declared.Target.{Target}
+use Rattle.half_sample.specs.Ring.{ring_corner, off_whole, read_from}
+use Rattle.full_search.specs.declared.Sought.{Sought}
 use Rattle.full_search.specs.Block.{Block, differences, row_by_row}
-use Rattle.full_search.specs.Costs.{consider}
-use Rattle.full_search.specs.Told.{Ready}
 use Rattle.full_search.specs.Window.{window_at}
 use Rattle.search.specs.Range.{vector_in}
-use Rattle.search.specs.Sub.{stepped, neighbour, ring}
+use Rattle.search.specs.Sub.{stepped}
+use Rattle.search.specs.Told.{SoughtReady}
 
 -- the sum of a vector in half mode
 abbrev pub half_sum : ℕ → Block → MotionVector → ℕ
@@ -59,15 +58,16 @@ pub record Grids (side : ℕ) (source right under diagonal : List ℕ) : Type 0 
   pub under_fits : length under ≡ grid_size side
   pub diagonal_fits : length diagonal ≡ grid_size side
 
--- the sums on the windows are those of the ring around c
-pub record RingSums (side : ℕ) (source right under diagonal : List ℕ) (fcode : ℕ) (c : MotionVector) (sum : MotionVector → ℕ) : Type 0 where
-  pub each : (n : ℕ) → n < 9 → (n ≡ 4 → ⊥) → grid_sum side source right under diagonal n ≡ sum (neighbour fcode 1 c n)
-
--- whatever they are the sums of: the best of b and the ring
-pub record RingKept (side : ℕ) (source right under diagonal : List ℕ) (fcode : ℕ) (c : MotionVector) (b r : Scored) : Type 0 where
-  pub kept : (sum : MotionVector → ℕ) → RingSums side source right under diagonal fcode c sum → r ≡ foldl (consider sum) b (ring fcode 1 c)
-
 -- ---- the patch
+
+-- how many samples it has
+abbrev pub patch_size : ℕ → ℕ
+patch_size side = (side + 2) * (side + 2)
+
+-- the block that a vector moves to, with a sample more on each side
+abbrev pub patch_of : Sought → MotionVector → List ℕ
+patch_of b v =
+    copied_block (plane_of b.reference.now b.target.geometry) (ring_corner b.target.corner v) (b.target.side + 2) (b.target.side + 2)
 
 -- a corner's part and a vector's that can be added
 pub record Addable (corner v : ℤ) : Type 0 where
@@ -77,13 +77,13 @@ pub record Addable (corner v : ℤ) : Type 0 where
   pub below_small : below v ≤ 2048
 
 -- a start whose neighbours are not clamped
-pub record FreeStart (source samples : List ℕ) (t : Target) (fcode : ℕ) (v : MotionVector) : Type 0 where
-  pub ready : Ready source samples t
+pub record FreeStart (b : Sought) (fcode : ℕ) (v : MotionVector) : Type 0 where
+  pub ready : SoughtReady b
   pub fcode_usable : between 1 7 fcode ≡ true
   pub vector_in_is : vector_in fcode v ≡ true
   pub is_free : free fcode v ≡ true
 
 -- how many samples a patch of `side` and each of its grids have
 pub record Areas (side patch grid : ℕ) : Type 0 where
-  pub patch_fits : patch ≡ (side + 2) * (side + 2)
+  pub patch_fits : patch ≡ patch_size side
   pub grid_fits : grid ≡ grid_size side

@@ -5,32 +5,28 @@ ghost use Rattle.basis.specs.Parts.{above, below};
 ghost use Rattle.prediction.specs.Luma.{units_per_pel};
 ghost use Rattle.refusal.specs.Test.{between};
 ghost use Rattle.full_search.specs.Costs.{consider, at_cost};
-ghost use Rattle.full_search.specs.Block.{block_of};
-ghost use Rattle.full_search.specs.Told.{Within, Ready};
+ghost use Rattle.full_search.specs.Block.{lent_block};
+ghost use Rattle.full_search.specs.Told.{Within};
 ghost use Rattle.search.specs.Range.{vector_in};
 ghost use Rattle.search.specs.Sums.{vector_sum};
 ghost use Rattle.search.specs.Sub.{stepped, neighbour, ring, start, refined};
 ghost use Rattle.search.specs.ToldGrids.{beside};
 ghost use Rattle.search.specs.ToldRing.{Centre, CallableAround, KeptBy};
-ghost use Rattle.search.specs.Told.{Set, Predictable, Stepping, Neighbouring, Ringed};
+ghost use Rattle.search.specs.Told.{Set, SoughtReady, Predictable, Stepping, Neighbouring, Ringed};
 
 use crate::{SearchSettings, grids, range};
-use full_search::{Scored, Target};
+use full_search::{Scored, Sought};
 use plane::Site;
 use prediction::BVopSampleMode;
 use record::MotionVector;
 
 // The sum of a vector in range.
-fn vector_sum(
-    source: &[u8],
-    reference: &[u8],
-    target: Target,
-    settings: SearchSettings,
-    vector: MotionVector,
-) -> u32
-    requires { Predictable source.now reference.now target settings vector }
-    ensures { result ≡ vector_sum settings (block_of source.now reference.now target) vector }
+#[tactic(auto, using(crate::proofs::PredictedSums::predicted_done, crate::proofs::PredictedSums::predicted_sum))]
+fn vector_sum(sought: Sought<'_>, settings: SearchSettings, vector: MotionVector) -> u32
+    requires { Predictable sought settings vector }
+    ensures { result ≡ vector_sum settings (lent_block sought.entry) vector }
 {
+    let target = sought.target;
     let side = target.side;
     let mut area = [0u8; 256];
     let predicted = &mut area[..side * side];
@@ -41,7 +37,7 @@ fn vector_sum(
     };
     // A vector in range is not refused.
     prediction::interpolate_block(
-        reference,
+        sought.reference,
         target.geometry,
         settings.mode,
         site,
@@ -50,7 +46,7 @@ fn vector_sum(
         predicted,
     )
     .unwrap();
-    full_search::block_sum(source, predicted, side)
+    full_search::block_sum(sought.source, predicted, side)
 }
 
 fn stepped(z: i32, step: usize, k: usize) -> i32
@@ -102,65 +98,50 @@ pub fn ring<F: Fn(usize, MotionVector) -> u32>(
 }
 
 // The eight neighbours of the best so far.
-fn ring_search(
-    source: &[u8],
-    reference: &[u8],
-    target: Target,
-    settings: SearchSettings,
-    step: usize,
-    best: Scored,
-) -> Scored
-    requires { Ringed source.now reference.now target settings step best.vector }
-    ensures { let sum = vector_sum settings (block_of source.now reference.now target) in
+#[tactic(auto, using(crate::proofs::InRange::in_within, crate::proofs::Refined::ring_predictable))]
+fn ring_search(sought: Sought<'_>, settings: SearchSettings, step: usize, best: Scored) -> Scored
+    requires { Ringed sought settings step best.vector }
+    ensures { let sum = vector_sum settings (lent_block sought.entry) in
         result ≡ foldl (consider sum) best (ring settings.fcode step best.vector) }
 {
     ring(
         best,
         settings.fcode,
         step,
-        |_, v| vector_sum(source, reference, target, settings, v),
+        |_, v| vector_sum(sought, settings, v),
     )
 }
 
 // The best of a vector and the ring around it.
+#[tactic(auto, using(crate::proofs::InRange::in_interpolation))]
 fn ring_best(
-    source: &[u8],
-    reference: &[u8],
-    target: Target,
+    sought: Sought<'_>,
     settings: SearchSettings,
     step: usize,
     vector: MotionVector,
 ) -> Scored
-    requires { Ringed source.now reference.now target settings step vector }
-    ensures { let sum = vector_sum settings (block_of source.now reference.now target) in
+    requires { Ringed sought settings step vector }
+    ensures { let sum = vector_sum settings (lent_block sought.entry) in
         result ≡ foldl (consider sum) (at_cost sum vector) (ring settings.fcode step vector) }
 {
-    let cost = vector_sum(source, reference, target, settings, vector);
+    let cost = vector_sum(sought, settings, vector);
     let first = Scored { vector, cost };
-    ring_search(source, reference, target, settings, step, first)
+    ring_search(sought, settings, step, first)
 }
 
 // The best of a start and the eight half a sample around it; in half mode by way of grids wherever the start allows it.
-fn half_best(
-    source: &[u8],
-    reference: &[u8],
-    target: Target,
-    settings: SearchSettings,
-    vector: MotionVector,
-) -> Scored
-    requires { Ready source.now reference.now target × Set settings × (vector_in settings.fcode vector ≡ true) }
-    ensures { let sum = vector_sum settings (block_of source.now reference.now target) in
+#[tactic(auto, using(crate::proofs::InRange::in_within, crate::proofs::GridSums::half_sums))]
+fn half_best(sought: Sought<'_>, settings: SearchSettings, vector: MotionVector) -> Scored
+    requires { SoughtReady sought × Set settings × (vector_in settings.fcode vector ≡ true) }
+    ensures { let sum = vector_sum settings (lent_block sought.entry) in
         result ≡ foldl (consider sum) (at_cost sum vector) (ring settings.fcode (units_per_pel settings.mode / 2) vector) }
 {
     let fcode = settings.fcode;
     match settings.mode {
         BVopSampleMode::HalfPel if grids::is_free(vector, fcode) => {
-            grids::half_best(source, reference, target, settings.rounding, fcode, vector)
+            grids::half_best(sought, settings.rounding, fcode, vector)
         }
-        BVopSampleMode::HalfPel => ring_best(source, reference, target, settings, 1, vector),
-        BVopSampleMode::QuarterPel(_) => {
-            ring_best(source, reference, target, settings, 2, vector)
-        }
+        mode => ring_best(sought, settings, range::units_per_pel(mode) / 2, vector),
     }
 }
 
@@ -186,23 +167,16 @@ fn start(d: MotionVector, settings: SearchSettings) -> MotionVector
 
 // The first of least on the sub-sample list that begins at a full-sample winner, with its sum. What the winner cost, which may be
 // discounted, is not looked at.
-pub fn refine_subpel(
-    source: &[u8],
-    reference: &[u8],
-    target: Target,
-    settings: SearchSettings,
-    winner: Scored,
-) -> Scored
-    requires { Ready source.now reference.now target × Set settings × Within 4096 winner.vector }
-    ensures { let sum = vector_sum settings (block_of source.now reference.now target) in
+#[tactic(auto, using(crate::proofs::Refined::start_in, crate::proofs::Refined::ring_best_in, crate::proofs::Refined::refine_half))]
+pub fn refine_subpel(sought: Sought<'_>, settings: SearchSettings, winner: Scored) -> Scored
+    requires { SoughtReady sought × Set settings × Within 4096 winner.vector }
+    ensures { let sum = vector_sum settings (lent_block sought.entry) in
         result ≡ refined sum settings winner.vector }
 {
     let vector = start(winner.vector, settings);
-    let half = half_best(source, reference, target, settings, vector);
+    let half = half_best(sought, settings, vector);
     match settings.mode {
         BVopSampleMode::HalfPel => half,
-        BVopSampleMode::QuarterPel(_) => {
-            ring_search(source, reference, target, settings, 1, half)
-        }
+        BVopSampleMode::QuarterPel(_) => ring_search(sought, settings, 1, half),
     }
 }

@@ -2,7 +2,6 @@
 use Prim.Native.Nat.{ℕ}
 use mathlib.Core.List.{List, [], ◌∷◌, ◌++◌}
 use mathlib.Core.Path.{◌≡◌}
-use Rattle.clip.specs.declared.Text.{Text}
 use Rattle.clip.specs.Decimal.{decimal}
 use Rattle.clip.specs.Line.{spaced, concatenated, vector_words, macroblock_words}
 use Rattle.clip.specs.ToldPush.{pushes}
@@ -10,7 +9,7 @@ use Rattle.clip.proofs.Lines.{begun, concatenated_more, word_known}
 use Rattle.clip.proofs.macroblock_words.Goals as goal
 
 -- a word more, whose number is known
-more : {r u : Text} {n : ℕ} (t : Text) (m : ℕ) (w : List ℕ) (ws : List (List ℕ)) → r ≡ pushes u (spaced (decimal n ∷ [])) → n ≡ m
+more : {r u : List ℕ} {n : ℕ} (t : List ℕ) (m : ℕ) (w : List ℕ) (ws : List (List ℕ)) → r ≡ pushes u (spaced (decimal n ∷ [])) → n ≡ m
     → u ≡ pushes t (concatenated (w ∷ ws)) → r ≡ pushes t (concatenated (w ∷ (ws ++ (decimal m ∷ []))))
 more {r} {u} t m w ws e p f =
     concatenated_more t w ws (decimal m ∷ []) (word_known u decimal e p) f

@@ -11,7 +11,7 @@ use Rattle.plane.specs.declared.Point.{Point}
 use Rattle.plane.specs.Plane.{plane_of}
 use Rattle.plane.specs.Corner.{corner_at, square_at}
 use Rattle.plane.specs.Reference.{reference_reply, block_reply}
-use Rattle.plane.specs.Samples.{samples}
+use Rattle.plane.specs.Samples.{samples, lent_samples, written_samples}
 use Rattle.half_sample.specs.Block.{half_block}
 use Rattle.prediction.specs.Macroblock.{macroblock_luma, macroblock_reply}
 use Rattle.prediction.specs.Planes.{chroma_geometry, lengths_in}
@@ -25,18 +25,16 @@ use Rattle.prediction.proofs.predict_macroblock.Goals as goal
 abbrev ReadyAt : In_ok-prediction_reply → Type 0
 ReadyAt s =
     let a = s.args in
-    PredictionReady a.mode a.geometry (lengths_in (samples a.reference_y.now a.reference_cb.now a.reference_cr.now))
-    a.motion a.place a.rounding (lengths_in (samples a.y.now a.cb.now a.cr.now))
+    PredictionReady a.mode a.geometry (lengths_in (lent_samples a.reference)) a.motion a.place a.rounding (lengths_in (written_samples a.out.now))
 
 -- nothing is refused
 passed : (s : In_ok-prediction_reply) → let a = s.args in
-    prediction_reply a.mode a.geometry (lengths_in (samples a.reference_y.now a.reference_cb.now a.reference_cr.now))
-    a.motion a.place a.rounding (lengths_in (samples a.y.now a.cb.now a.cr.now))
+    prediction_reply a.mode a.geometry (lengths_in (lent_samples a.reference)) a.motion a.place a.rounding (lengths_in (written_samples a.out.now))
     ≡ Ok tt
 passed s =
     let a = s.args in
     ap₂ (λ (n out : PlaneLengths). prediction_reply a.mode a.geometry n a.motion a.place a.rounding out)
-    (sym s.lengths-reference.ensures) (sym s.lengths-out.ensures)
+    (sym s.plane_lengths-bytes.ensures) (sym s.room-areas.ensures)
     ∙ sym s.prediction_reply.ensures
     ∙ s.in_ok-prediction_reply.was
 
@@ -81,7 +79,7 @@ pub predict_ready-requires : goal.predict_ready-requires
 predict_ready-requires c =
     let a = c.args in
     let r = ready (goal.at.predict_ready-requires c).In_ok-prediction_reply in
-    ap (λ (x : Point). macroblock_reply a.mode a.geometry.luma (length a.reference_y.now) a.motion x a.rounding (length a.y.now))
+    ap (λ (x : Point). macroblock_reply a.mode a.geometry.luma (length a.reference.y.now) a.motion x a.rounding (length a.out.now.y.now))
     c.corner_at-corner.ensures
     ∙ macroblock-done _ _ _ _ _ _ _ r.mode r.planes.luma r.motions r.rounding_type r.areas.luma
 
@@ -95,14 +93,15 @@ predict_chroma-requires-2 c =
     let s = (goal.at.predict_chroma-requires-2 c).In_ok-prediction_reply in
     chroma_part_lem (goal.at.predict_chroma-requires-2 c).After-vector_of-vector _ _ (ready s).planes.red (ready s).areas.red
 
-pub returns : goal.returns
+pub returns-clause-out_after : goal.returns-clause-out_after
 unfolding macroblock_prediction
-returns c =
+returns-clause-out_after c =
     let a = c.args in
     let y =
     c.predict_ready.ensures
-    ∙ ap (λ (o : Point). macroblock_luma a.mode (plane_of a.reference_y.now a.geometry.luma) a.motion o a.rounding)
+    ∙ ap (λ (o : Point). macroblock_luma a.mode (plane_of a.reference.y.now a.geometry.luma) a.motion o a.rounding)
     c.corner_at-corner.ensures in
-    let cb = chroma_is (goal.at.returns c).After-vector_of-vector a.reference_cb.now _ c.predict_chroma.ensures in
-    let cr = chroma_is (goal.at.returns c).After-vector_of-vector a.reference_cr.now _ c.predict_chroma-2.ensures in
-    (sym (passed (goal.at.returns c).In_ok-prediction_reply), λ i. samples (y i) (cb i) (cr i))
+    let v = (goal.at.returns-clause-out_after c).After-vector_of-vector in
+    let cb = chroma_is v a.reference.cb.now _ c.predict_chroma.ensures in
+    let cr = chroma_is v a.reference.cr.now _ c.predict_chroma-2.ensures in
+    λ i. samples (y i) (cb i) (cr i)

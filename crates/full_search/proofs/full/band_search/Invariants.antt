@@ -12,4 +12,4 @@ line_of first i = row_below first (4 * i)
 
 abbrev pub invariant-loop-i : goal.invariant-loop-i
 invariant-loop-i l =
-    (l.i ≤ l.n) × RowsKept 16 l.source l.band l.first.from l.width 28 zero_discount (line_of l.first) l.initial.b l.i l.b
+    (l.i ≤ l.n) × RowsKept 16 l.judged.sought.source.now l.band l.first.from l.width 28 zero_discount (line_of l.first) l.initial.b l.i l.b

@@ -6,6 +6,6 @@ use Rattle.full_search.proofs.full.copy_from.Goals as goal
 pub returns : goal.returns
 returns c =
     let a = c.args in
-    let t = a.target in
-    copy_is a.reference.now t.geometry c.moved_to-at.result (moved_to t.corner a.d) a.w a.h c.copy_block.result a.out.now _
-    c.requires.0 c.requires.3 c.moved_to-at.ensures c.copy_block.ensures.value c.copy_block.ensures.out_after
+    let t = a.judged.sought.target in
+    copy_is a.judged.sought.reference.now t.geometry c.moved_to-at.result (moved_to t.corner a.d) a.w a.h c.copy_block.result a.out.now _
+    a.judged.ready.reference c.requires.1 c.moved_to-at.ensures c.copy_block.ensures.value c.copy_block.ensures.out_after

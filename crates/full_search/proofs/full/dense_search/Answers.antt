@@ -2,24 +2,22 @@
 use Prim.Native.Nat.{ℕ, ◌+◌, ◌*◌, ◌<◌}
 use native.Mathlib.Omega.{arith}
 use mathlib.Core.List.{List}
-use mathlib.Core.Path.{◌≡◌, refl, sym, ap, ◌∙◌, subst}
+use mathlib.Core.Path.{◌≡◌, refl, sym, ◌∙◌, subst}
 use lib.IntN.{pos, ◌-ℤ◌}
 use Rattle.record.specs.declared.MotionVector.{MotionVector}
 use Rattle.full_search.specs.declared.Row.{Row}
 use Rattle.full_search.specs.declared.Scored.{Scored}
-use Rattle.full_search.specs.Costs.{zero_discount}
-use Rattle.full_search.specs.Places.{row_of}
 use Rattle.full_search.specs.Full.{dense_row_at, dense_row}
 use Rattle.full_search.specs.Told.{Within}
-use Rattle.full_search.specs.ToldKept.{kept_of, kept_rows, target_cost, NoMoreThanZero, StripReady}
-use Rattle.full_search.proofs.Kept.{kept_rows_more, rows_small}
+use Rattle.full_search.specs.ToldKept.{sixteen_cost, NoMoreThanZero, StripReady}
+use Rattle.full_search.proofs.Kept.{rows_small}
 use Rattle.full_search.proofs.Moves.{down_within, lowered_within}
 use Rattle.full_search.proofs.Near.{rows_within}
 use Rattle.full_search.proofs.full.dense_search.Goals.{In-loop-j, Start}
 use Rattle.full_search.proofs.full.dense_search.Goals as goal
 
 abbrev cost_of : Start → MotionVector → ℕ
-cost_of s = let a = s.args in target_cost zero_discount a.source.now a.reference.now a.target
+cost_of s = sixteen_cost s.args.judged
 
 abbrev piece_of : Start → MotionVector → ℕ → List MotionVector
 piece_of s = dense_row s.args.w s.args.best.vector.y
@@ -41,43 +39,18 @@ row_within w v d j p q h =
     down_within 1026 4096 (record { x = d.x -ℤ pos 3; y = v.y -ℤ pos 3 }) j (omega arith)
     (lowered_within 1023 1026 3 d.x v.y (omega arith) p.x_above p.x_below q.y_above q.y_below)
 
-pub loop-j-init : goal.loop-j-init
-unfolding kept_rows
-loop-j-init c = (omega arith, refl, refl)
-
 pub dense_row-row-requires : goal.dense_row-row-requires
 dense_row-row-requires c = (c.requires.1, best_within (goal.at.dense_row-row-requires c).In-loop-j, c.loop-j-test.true)
-
-pub slice_bounds-strip_search-end : goal.slice_bounds-strip_search-end
-slice_bounds-strip_search-end c = sym c.loop-j.invariant.1
 
 pub strip_search-b-requires : goal.strip_search-b-requires
 strip_search-b-requires c =
     let k = (goal.at.strip_search-b-requires c).In-loop-j in
     let a = c.args in
     let strip = c.loop-j.strip in
-    subst (λ (r : Row). StripReady a.source.now a.reference.now a.target strip r zero_discount c.loop-j.b) (sym c.dense_row-row.ensures)
+    subst (λ (r : Row). StripReady a.judged strip r c.loop-j.b) (sym c.dense_row-row.ensures)
     (record {
-      ready = c.requires.0.ready;
       from_small = row_within a.w a.best.vector c.loop-j.b.vector c.loop-j.j (best_within k) c.requires.1 c.loop-j-test.true;
       run_small = omega arith;
       strip_fits = c.loop-j.invariant.1 ∙ subst (λ (n : ℕ). 368 ≡ (n + 1 * 7) * n) (sym c.requires.0.sixteen) refl;
       best_small = best_small k;
     })
-
-pub loop-j-preserved : goal.loop-j-preserved
-loop-j-preserved c =
-    let s = (goal.at.loop-j-preserved c).Start in
-    let j = c.loop-j.j in (
-      omega (arith, c.loop-j-test.true),
-      omega (arith, c.loop-j.invariant.1),
-      c.strip_search-b.ensures
-          ∙ ap (λ (r : Row). kept_of (cost_of s) c.loop-j.b (row_of r)) c.dense_row-row.ensures
-          ∙ ap (λ (b : Scored). kept_of (cost_of s) b (piece_of s b.vector j)) c.loop-j.invariant.2
-          ∙ sym (kept_rows_more (cost_of s) (piece_of s) c.args.best j),
-    )
-
-pub returns : goal.returns
-returns c =
-    let s = (goal.at.returns c).Start in
-    c.loop-j.invariant.2 ∙ ap (kept_rows (cost_of s) (piece_of s) c.args.best) (omega (arith, c.loop-j-test.false, c.loop-j.invariant.0))

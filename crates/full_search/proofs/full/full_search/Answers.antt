@@ -4,12 +4,12 @@ use mathlib.Core.Path.{◌≡◌, refl, sym, ap, ◌∙◌, subst}
 use Rattle.record.specs.declared.MotionVector.{MotionVector}
 use Rattle.record.specs.Zero.{zero_vector}
 use Rattle.full_search.specs.declared.Scored.{Scored}
-use Rattle.full_search.specs.Block.{Block, block_of}
-use Rattle.full_search.specs.Costs.{zero_discount, at_cost}
+use Rattle.full_search.specs.Block.{Block}
+use Rattle.full_search.specs.Costs.{at_cost}
 use Rattle.full_search.specs.Full.{near_rows, lattice_of}
 use Rattle.full_search.specs.Won.{sixteen_best}
 use Rattle.full_search.specs.Told.{Within}
-use Rattle.full_search.specs.ToldKept.{kept_of, found, target_cost, NoMoreThanZero}
+use Rattle.full_search.specs.ToldKept.{kept_of, found, judged_block, sixteen_cost, NoMoreThanZero}
 use Rattle.full_search.proofs.FullSearch.{full_small, full_dense, full_near}
 use Rattle.full_search.proofs.Kept.{kept_small, zero_small}
 use Rattle.full_search.proofs.Near.{coarse_within}
@@ -17,10 +17,10 @@ use Rattle.full_search.proofs.full.full_search.Goals.{After-lattice_search-coars
 use Rattle.full_search.proofs.full.full_search.Goals as goal
 
 abbrev block_at : Start → Block
-block_at s = let a = s.args in block_of a.source.now a.reference.now a.target
+block_at s = judged_block s.args.judged
 
 abbrev cost_of : Start → MotionVector → ℕ
-cost_of s = let a = s.args in target_cost zero_discount a.source.now a.reference.now a.target
+cost_of s = sixteen_cost s.args.judged
 
 near_small : (c : After-near_search-near) → NoMoreThanZero (cost_of (goal.at.After-near_search-near c).Start) c.near_search-near.result
 near_small c =
@@ -39,10 +39,6 @@ coarse_small c =
     kept_small (cost_of s) (lattice_of c.args.w (block_at s)) c.near_search-near.result c.lattice_search-coarse.result c.lattice_search-coarse.ensures
     (near_small (goal.at.After-lattice_search-coarse c).After-near_search-near)
 
-pub near_search-near-requires : goal.near_search-near-requires
-near_search-near-requires c =
-    (c.requires.0, c.requires.1)
-
 pub returns-then-fcode-le1 : goal.returns-then-fcode-le1
 unfolding sixteen_best
 returns-then-fcode-le1 c =
@@ -51,14 +47,14 @@ returns-then-fcode-le1 c =
 
 pub lattice_search-coarse-requires : goal.lattice_search-coarse-requires
 lattice_search-coarse-requires c =
-    record { ready = c.requires.0; sixteen = c.requires.1; window_small = c.requires.2; best_small = near_small (goal.at.lattice_search-coarse-requires c).After-near_search-near }
+    record { sixteen = c.requires.0; window_small = c.requires.1; best_small = near_small (goal.at.lattice_search-coarse-requires c).After-near_search-near }
 
 pub dense_search-requires : goal.dense_search-requires
 dense_search-requires c =
     let k = (goal.at.dense_search-requires c).After-lattice_search-coarse in
     let s = (goal.at.dense_search-requires c).Start in (
-      record { ready = c.requires.0; sixteen = c.requires.1; window_small = c.requires.2; best_small = coarse_small k },
-      subst (λ (b : Scored). Within 1023 b.vector) (sym (coarse_is k)) (coarse_within (cost_of s) c.args.w (block_at s) c.requires.2),
+      record { sixteen = c.requires.0; window_small = c.requires.1; best_small = coarse_small k },
+      subst (λ (b : Scored). Within 1023 b.vector) (sym (coarse_is k)) (coarse_within (cost_of s) c.args.w (block_at s) c.requires.1),
     )
 
 pub returns-then-coarse-near : goal.returns-then-coarse-near

@@ -6,8 +6,7 @@ use lib.ListN.{length, take, length-take, length-drop, length-append}
 use Rattle.basis.specs.Lists.{rows}
 use Rattle.record.specs.declared.MotionVector.{MotionVector}
 use Rattle.full_search.specs.declared.Row.{Row}
-use Rattle.full_search.specs.Costs.{zero_discount}
-use Rattle.full_search.specs.ToldKept.{kept_of, target_cost, rows_below, BandReady}
+use Rattle.full_search.specs.ToldKept.{kept_of, sixteen_cost, rows_below, BandReady}
 use Rattle.full_search.proofs.Kept.{kept_small}
 use Rattle.full_search.proofs.Lattice.{band_more}
 use Rattle.full_search.proofs.Moves.{down_within}
@@ -15,7 +14,7 @@ use Rattle.full_search.proofs.full.lattice_bands.Goals.{After-band_search-b, In-
 use Rattle.full_search.proofs.full.lattice_bands.Goals as goal
 
 abbrev cost_of : Start → MotionVector → ℕ
-cost_of s = let a = s.args in target_cost zero_discount a.source.now a.reference.now a.target
+cost_of s = sixteen_cost s.args.judged
 
 abbrev size_of : Start → ℕ
 size_of s = (16 + s.args.first.step * s.args.first.count) * 28
@@ -43,10 +42,9 @@ band_search-b-requires c =
     let j = c.loop-j.j in
     let fits = room k in
     let part = take (size_of s) c.loop-j.band in
-    subst (λ (r : Row). BandReady a.source.now a.reference.now a.target part r c.min-n.result c.loop-j.b)
+    subst (λ (r : Row). BandReady a.judged part r c.min-n.result c.loop-j.b)
     (sym c.row_below-row.ensures)
     (record {
-      ready = r.ready;
       sixteen = r.sixteen;
       from_small = down_within 1023 4000 a.first.from (4 * j) (omega (arith, c.loop-j-test.true, r.few)) r.from_small;
       run_small = r.run_small;

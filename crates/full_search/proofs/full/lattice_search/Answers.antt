@@ -11,9 +11,8 @@ use Rattle.basis.specs.Parts.{above, below}
 use Rattle.basis.proofs.Parts.{nat_abs-above, parts_fit}
 use Rattle.plane.proofs.Ready.{usable}
 use Rattle.full_search.specs.declared.Scored.{Scored}
-use Rattle.full_search.specs.Costs.{zero_discount}
 use Rattle.full_search.specs.Places.{places, lattice_row}
-use Rattle.full_search.specs.ToldKept.{kept_of, target_cost, target_lattice}
+use Rattle.full_search.specs.ToldKept.{kept_of, sixteen_cost, target_lattice}
 use Rattle.full_search.proofs.Lattice.{lattice-kept}
 use Rattle.full_search.proofs.full.lattice_search.Goals.{After-lattice_from, Start}
 use Rattle.full_search.proofs.full.lattice_search.Goals as goal
@@ -22,43 +21,43 @@ use Rattle.full_search.proofs.full.lattice_search.Goals as goal
 part_read : (z : ℤ) → above z ≤ 4088 → below z ≡ 0 → nat_abs (to_z w32 (of_z w32 z)) ≡ above z
 part_read z h k = ap nat_abs (to_z-of_z {w = w32} (parts_fit z (omega arith) (omega arith))) ∙ nat_abs-above z k
 
-across : (c : Start) → let z = c.args.target.corner.x in nat_abs (to_z w32 (of_z w32 z)) ≡ above z
-across c = let i = c.requires.ready.inside in part_read c.args.target.corner.x i.x_most i.x_least
+across : (c : Start) → let z = c.args.judged.sought.target.corner.x in nat_abs (to_z w32 (of_z w32 z)) ≡ above z
+across c = let i = c.args.judged.ready.inside in part_read c.args.judged.sought.target.corner.x i.x_most i.x_least
 
-along : (c : Start) → let z = c.args.target.corner.y in nat_abs (to_z w32 (of_z w32 z)) ≡ above z
-along c = let i = c.requires.ready.inside in part_read c.args.target.corner.y i.y_most i.y_least
+along : (c : Start) → let z = c.args.judged.sought.target.corner.y in nat_abs (to_z w32 (of_z w32 z)) ≡ above z
+along c = let i = c.args.judged.ready.inside in part_read c.args.judged.sought.target.corner.y i.y_most i.y_least
 
 pub places-count-requires : goal.places-count-requires
 places-count-requires c =
     let s = (goal.at.places-count-requires c).Start in
-    let t = c.args.target in (
+    let t = c.args.judged.sought.target in (
       c.requires.window_small,
-      omega (arith, across s, c.requires.ready.inside.x_most),
-      (usable c.args.reference.now t.geometry c.requires.ready.reference).within.high_w,
+      omega (arith, across s, c.args.judged.ready.inside.x_most),
+      (usable c.args.judged.sought.reference.now t.geometry c.args.judged.ready.reference).within.high_w,
     )
 
 pub places-lines-requires : goal.places-lines-requires
 places-lines-requires c =
     let s = (goal.at.places-lines-requires c).Start in
-    let t = c.args.target in (
+    let t = c.args.judged.sought.target in (
       c.requires.window_small,
-      omega (arith, along s, c.requires.ready.inside.y_most),
-      (usable c.args.reference.now t.geometry c.requires.ready.reference).within.high_h,
+      omega (arith, along s, c.args.judged.ready.inside.y_most),
+      (usable c.args.judged.sought.reference.now t.geometry c.args.judged.ready.reference).within.high_h,
     )
 
 -- what a search over its rows keeps
 kept : (c : After-lattice_from) (b : Scored)
     → let a = c.args in
-    let cost = target_cost zero_discount a.source.now a.reference.now a.target in
+    let cost = sixteen_cost a.judged in
     b ≡ kept_of cost a.best (rows c.places-lines.result (lattice_row a.w c.lattice_from.result c.places-count.result))
-    → b ≡ kept_of cost a.best (target_lattice a.w a.target)
+    → b ≡ kept_of cost a.best (target_lattice a.w a.judged.sought.target)
 kept c b e =
     let s = (goal.at.After-lattice_from c).Start in
     let a = c.args in
-    let t = a.target in
+    let t = a.judged.sought.target in
     let x = ap (λ (m : ℕ). places a.w m t.geometry.width) (across s) in
     let y = ap (λ (m : ℕ). places a.w m t.geometry.height) (along s) in
-    lattice-kept (target_cost zero_discount a.source.now a.reference.now t) a.best b a.w t.corner t.geometry.width t.geometry.height
+    lattice-kept (sixteen_cost a.judged) a.best b a.w t.corner t.geometry.width t.geometry.height
     c.lattice_from.result c.places-count.result c.places-lines.result c.places-lines.result e refl c.lattice_from.ensures
     (c.places-count.ensures ∙ x) (c.places-lines.ensures ∙ y)
 

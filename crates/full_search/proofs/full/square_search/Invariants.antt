@@ -6,4 +6,4 @@ use Rattle.full_search.proofs.full.square_search.Given as goal
 
 abbrev pub invariant-loop-j : goal.invariant-loop-j
 invariant-loop-j l =
-    (l.j ≤ l.j-end) × (l.j-end ≡ l.square.count) × SquareKept l.side l.source l.patch l.square l.width l.discount l.initial.b l.j l.b
+    (l.j ≤ l.j-end) × (l.j-end ≡ l.square.count) × SquareKept l.side l.judged.sought.source.now l.patch l.square l.width 0 l.initial.b l.j l.b

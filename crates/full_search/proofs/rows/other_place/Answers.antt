@@ -2,11 +2,7 @@
 use mathlib.Core.Path.{refl}
 use Rattle.full_search.specs.ToldPatch.{lines_from}
 use Rattle.full_search.proofs.OnPatches.{considered, other_here}
-use Rattle.full_search.proofs.Sides.{source_fits}
 use Rattle.full_search.proofs.rows.other_place.Goals as goal
-
-pub block-sum-requires : goal.block-sum-requires
-block-sum-requires c = (c.requires.0.is_side_is, source_fits 16 c.args.source.now c.requires.0.source_fits, c.requires.0.fits)
 
 pub returns : goal.returns
 returns c =

@@ -3,9 +3,8 @@ use mathlib.Core.List.{[], ◌∷◌}
 use mathlib.Core.Path.{◌≡◌, sym, ◌∙◌}
 use native.Mathlib.Omega.{arith}
 use Rattle.full_search.specs.Places.{listed}
-use Rattle.full_search.proofs.Listed.{too_near, too_far, is_listed}
-use Rattle.full_search.proofs.OnPatches.{passed_over, considered, zero_here, other_here}
-use Rattle.full_search.proofs.Sides.{source_fits}
+use Rattle.full_search.proofs.Listed.{is_listed}
+use Rattle.full_search.proofs.OnPatches.{considered, zero_here, other_here}
 use Rattle.full_search.proofs.rows.place_search.Goals.{Else-row-far}
 use Rattle.full_search.proofs.rows.place_search.Goals as goal
 
@@ -14,22 +13,6 @@ listed_here : (c : Else-row-far)
 listed_here c =
     is_listed c.args.row.inner c.args.row.outer c.args.d (omega (arith, c.distance-far.ensures, c.if-far-row.false))
     (omega (arith, c.distance-far.ensures, c.if-row-far.false))
-
-pub returns-then-far-row : goal.returns-then-far-row
-returns-then-far-row c =
-    let s = c.args in
-    passed_over s.side s.source.now s.patch.now s.at s.discount s.d s.best
-    (too_near s.row.inner s.row.outer s.d (omega (arith, c.distance-far.ensures, c.if-far-row.true)))
-
-pub returns-then-row-far : goal.returns-then-row-far
-returns-then-row-far c =
-    let s = c.args in
-    passed_over s.side s.source.now s.patch.now s.at s.discount s.d s.best
-    (too_far s.row.inner s.row.outer s.d (omega (arith, c.distance-far.ensures, c.if-row-far.true)))
-
-pub block-sum-requires : goal.block-sum-requires
-block-sum-requires c =
-    (c.requires.is_side_is, source_fits c.args.side c.args.source.now c.requires.source_fits, c.requires.fits)
 
 pub returns-then-far-eq0 : goal.returns-then-far-eq0
 returns-then-far-eq0 c =

@@ -1,46 +1,18 @@
 -- `full_search::rows::whole_row` meets its contract.
-use Prim.Native.Nat.{ℕ, ◌*◌, ◌≤◌, ◌<◌}
-use native.Mathlib.Nat.{mul-le-mul_left}
+use Prim.Native.Nat.{◌*◌}
 use native.Mathlib.Omega.{arith}
 use mathlib.Core.List.{List, [], ◌∷◌}
 use mathlib.Core.Path.{◌≡◌, refl, sym, ap, ◌∙◌, subst}
 use Rattle.record.specs.declared.MotionVector.{MotionVector}
-use Rattle.full_search.specs.declared.Row.{Row}
-use Rattle.full_search.specs.Places.{distance, listed}
+use Rattle.full_search.specs.Places.{listed}
 use Rattle.full_search.specs.ToldPatch.{lines_right, KeptOn}
 use Rattle.full_search.proofs.OnPatches.{row_none, row_more, row_all}
 use Rattle.full_search.proofs.rows.whole_row.Goals as goal
-
-run : (r : Row) (k : ℕ) → k < r.count → r.step * r.count ≤ 4096 → r.step * k ≤ 4096
-run r k h b = omega (arith, mul-le-mul_left r.step (less r.count h))
-  where
-    less : (n : ℕ) → k < n → k ≤ n
-    less n h = omega arith
 
 pub loop-k-init : goal.loop-k-init
 loop-k-init c =
     let s = c.args in
     (omega arith, refl, λ discount. row_none 16 s.source.now s.patch.now s.at s.row discount s.best)
-
-pub overflow_mul-by : goal.overflow_mul-by
-overflow_mul-by c =
-    let m = run c.args.row c.loop-k.k c.loop-k-test.true c.requires.0.run_small in
-    record { fits = omega (arith, m) }
-
-pub right-d-requires : goal.right-d-requires
-right-d-requires c =
-    (c.requires.0.from_small, run c.args.row c.loop-k.k c.loop-k-test.true c.requires.0.run_small)
-
-pub overflow_add-at : goal.overflow_add-at
-overflow_add-at c =
-    record { fits = omega (arith, c.requires.0.fits c.loop-k.k c.loop-k-test.true) }
-
-pub other_place-b-requires : goal.other_place-b-requires
-other_place-b-requires c =
-    let k = c.loop-k.k in (
-      record { is_side_is = refl; source_fits = c.requires.0.source_fits; fits = c.requires.0.fits k c.loop-k-test.true },
-      λ z. c.requires.1.other k c.loop-k-test.true (sym (ap distance c.right-d.ensures) ∙ z),
-    )
 
 pub loop-k-preserved : goal.loop-k-preserved
 loop-k-preserved c =

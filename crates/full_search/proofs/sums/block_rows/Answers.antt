@@ -1,34 +1,15 @@
 -- `full_search::sums::block_rows` meets its contract.
-use Prim.Native.Nat.{◌+◌, ◌*◌, ◌/◌}
+use Prim.Native.Nat.{◌/◌}
 use native.Mathlib.Omega.{arith}
 use mathlib.Core.Path.{◌∙◌}
 use Rattle.basis.proofs.Sums.{summed_none, summed_more, summed_end}
 use Rattle.full_search.specs.ToldPatch.{lines_from}
-use Rattle.full_search.proofs.RowSums.{rows_fit, all_rows}
-use Rattle.full_search.proofs.Sides.{side_most, side_even}
+use Rattle.full_search.proofs.RowSums.{all_rows}
+use Rattle.full_search.proofs.Sides.{side_even}
 use Rattle.full_search.proofs.sums.block_rows.Goals as goal
 
 pub loop-k-init : goal.loop-k-init
 loop-k-init g c = summed_none _ _ _
-
-pub row_at-first-requires : goal.row_at-first-requires
-row_at-first-requires g c =
-    let j = 2 * c.loop-k.k in
-    let a = c.args in
-    let r = c.requires in
-    let f = rows_fit g.row.SIDE j a.apart (lines_from a.at a.stride) a.source.now a.window.now (omega arith) (r.1, r.2) in
-    (side_most g.row.SIDE r.0, f.0, f.1)
-
-pub row_at-requires : goal.row_at-requires
-row_at-requires g c =
-    let j = 2 * c.loop-k.k + 1 in
-    let a = c.args in
-    let r = c.requires in
-    let f = rows_fit g.row.SIDE j a.apart (lines_from a.at a.stride) a.source.now a.window.now (omega arith) (r.1, r.2) in
-    (side_most g.row.SIDE r.0, f.0, f.1)
-
-pub overflow_add-sum-in-loop-k : goal.overflow_add-sum-in-loop-k
-overflow_add-sum-in-loop-k g c = record { fits = omega (arith, side_most g.row.SIDE c.requires.0) }
 
 pub loop-k-preserved : goal.loop-k-preserved
 loop-k-preserved g c =

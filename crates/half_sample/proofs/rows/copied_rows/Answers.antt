@@ -10,12 +10,12 @@ use Rattle.half_sample.proofs.rows.copied_rows.Goals as goal
 
 pub returns : goal.returns
 returns c =
-    let a = c.args in
+    let a = c.args.block in
     let from = plane_of a.samples.now a.geometry in
     let w = c.samples_for-columns.ensures in
     let h = c.samples_for-lines.ensures in
     let copy = c.copy_block.ensures in
-    let samples = left _ _ _ _ _ copy.value (copy_done _ _ _ _ _ c.requires.0.reference (search rules)) copy.out_after ∙ ap₂ (copied_block from a.at) w h in
+    let samples = left _ _ _ _ _ copy.value (copy_done _ _ _ _ _ a.needs.reference (search rules)) copy.out_after ∙ ap₂ (copied_block from a.at) w h in
     let same : plane_of c.copy_block.new.out (record { width = c.samples_for-columns.result; height = c.samples_for-lines.result; stride = c.samples_for-columns.result })
     ≡ copy_by from a.at a.site a.halves =
     λ i. record { samples = samples i; width = w i; height = h i; stride = w i } in
