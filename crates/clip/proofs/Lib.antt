@@ -1,4 +1,5 @@
 pub mod Digits
+pub mod Filled
 pub mod Lines
 pub mod Printed
 pub mod Room

@@ -2,4 +2,5 @@ pub mod Decimal
 pub mod Header
 pub mod Line
 pub mod Planes
+pub mod Text
 pub mod ToldPush

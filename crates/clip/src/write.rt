@@ -4,15 +4,15 @@ ghost use Rattle.clip.specs.Decimal.{decimal, decimal_z};
 ghost use Rattle.clip.specs.ToldPush.{pushes};
 ghost use Rattle.clip.specs.Line.{spaced, vector_words};
 
-use arrayvec::ArrayVec;
 use itoa::Buffer;
 use record::MotionVector;
 use std::marker::Model;
 
-// The bytes of a line, which contracts see as their list. No line is longer (proofs/Room.antt).
-#[derive(Drop)]
+// The bytes of a line, which contracts see as their list: the first `len`, and the rest is 0. No line is longer (proofs/Room.antt).
+#[derive(Clone, Copy)]
 pub struct Text {
-    bytes: ArrayVec<u8, 198>,
+    bytes: [u8; 198],
+    len: usize,
 }
 
 impl Model for Text {
@@ -20,7 +20,15 @@ impl Model for Text {
 
     ghost Value = { List ℕ };
 
-    ghost view = { λ t. t.bytes.items };
+    ghost use Rattle.clip.specs.Text.{text_of, taken, IsText, text_back};
+
+    ghost view = { taken };
+
+    ghost invariant = { IsText };
+
+    ghost inverse = { text_of };
+
+    ghost inverse_ok = { text_back };
 }
 
 impl Text {
@@ -28,7 +36,8 @@ impl Text {
         ensures { result ≡ [] }
     {
         Text {
-            bytes: ArrayVec::new(),
+            bytes: [0; 198],
+            len: 0,
         }
     }
 
@@ -36,16 +45,17 @@ impl Text {
         ensures bytes { result.now ≡ self.now }
         ensures short { length result.now ≤ 198 }
     {
-        self.bytes.as_slice()
+        &self.bytes[..self.len]
     }
 
     // As many bytes more as there is room for.
-    #[tactic(auto, using(crate::proofs::Texts::room_for))]
     pub(crate) fn push_all(&mut self, s: &[u8])
         ensures { self.new ≡ pushes self.old s.now }
     {
-        let n = s.len().min(self.bytes.remaining_capacity());
-        let _ = self.bytes.try_extend_from_slice(&s[..n]);
+        let n = s.len().min(198 - self.len);
+        let end = self.len + n;
+        self.bytes[self.len..end].copy_from_slice(&s[..n]);
+        self.len = end;
     }
 
     #[tactic(auto, using(crate::proofs::Printed::printed_is))]

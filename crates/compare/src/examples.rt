@@ -1,6 +1,5 @@
 // The worked examples without a star.
 use plane::{MacroblockPlace, SourceSize};
-use std::io;
 
 // Residual all 1: first coefficient 8, others 0.
 fn all_ones() -> bool {
@@ -22,16 +21,17 @@ fn one_among_zeros() -> bool {
     macroblock::intra_activity(&luma, size, place) == Ok(255)
 }
 
-fn report(rt: &HostRuntime, right: bool, name: &str) -> io::Result<()> {
+// What can't be written is passed over, and the program goes on.
+fn report(rt: &HostRuntime, right: bool, name: &str) {
     let verdict = if right { "as it should be" } else { "WRONG" };
-    println!(rt; "{name}: {verdict}")
+    let _ = println!(rt; "{name}: {verdict}");
 }
 
-pub fn report_all(rt: &HostRuntime) -> io::Result<()> {
+pub fn report_all(rt: &HostRuntime) {
     report(
         rt,
         all_ones(),
         "residual all 1, first coefficient 8, others 0",
-    )?;
-    report(rt, one_among_zeros(), "one 255 among zeros, activity 255")
+    );
+    report(rt, one_among_zeros(), "one 255 among zeros, activity 255");
 }

@@ -110,13 +110,13 @@ pub fn replay_all(input: i32) -> Tally {
     tally
 }
 
-// A line an entry, then all the calls.
-pub fn print_all(rt: &HostRuntime, tally: &Tally) -> std::io::Result<()> {
+// A line an entry, then all the calls. A line that can't be written is passed over.
+pub fn print_all(rt: &HostRuntime, tally: &Tally) {
     for (name, entry) in NAMES.iter().zip(&tally.entries[1..]) {
-        println!(rt;
+        let _ = println!(rt;
             "{name}: {} equal, {} of them refused",
             entry.equal, entry.refused
-        )?;
+        );
     }
-    println!(rt; "{} calls", tally.calls)
+    let _ = println!(rt; "{} calls", tally.calls);
 }

@@ -30,7 +30,7 @@ pub fn down(d: MotionVector, by: usize) -> MotionVector
 fn distance(d: MotionVector) -> usize
     ensures { result ≡ distance d }
 {
-    d.x.unsigned_abs().max(d.y.unsigned_abs()) as usize
+    basis::magnitude(d.x).max(basis::magnitude(d.y)) as usize
 }
 
 // One place of a row, whose block stands at `at` in the patch.
@@ -115,7 +115,7 @@ fn is_whole(row: Row) -> bool
         return false;
     }
     let last = right(row.from, row.step * (row.count - 1));
-    let tall = row.from.y.unsigned_abs() as usize;
+    let tall = basis::magnitude(row.from.y) as usize;
     row.inner.max(1) <= tall && distance(row.from).max(distance(last)) <= row.outer
 }
 

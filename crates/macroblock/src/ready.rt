@@ -40,11 +40,12 @@ pub fn search_vectors(
     };
     let one = search::estimate_motion(request).unwrap();
     if settings.vectors != 4 {
+        let Record { vectors, sums, .. } = record::no_record();
         return Searched {
             vector: one.vector,
             sum: one.sum,
-            vectors: [record::zero_vector(); 4],
-            sums: [0; 4],
+            vectors,
+            sums,
         };
     }
     let EstimatedFour { vectors, sums } = search::estimate_motion_4mv(request, one.vector).unwrap();

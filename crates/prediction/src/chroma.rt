@@ -49,7 +49,7 @@ fn of_sum(sum: i32) -> i32
     requires { nat_abs sum ≤ 8192 }
     ensures { result ≡ chroma_of_sum sum }
 {
-    let size = sum.unsigned_abs();
+    let size = basis::magnitude(sum);
     let halves = (2 * (size / 16) + halves_of(size % 16)) as i32;
     if sum < 0 { -halves } else { halves }
 }

@@ -37,7 +37,7 @@ pub fn quantise_method2_inter(f: i32, quantiser_scale: u32, by: u32) -> i32
     requires { Quantisable f quantiser_scale by }
     ensures { result ≡ level_by_quantiser quantiser_scale f }
 {
-    let rest = f.unsigned_abs().saturating_sub(quantiser_scale / 2);
+    let rest = basis::magnitude(f).saturating_sub(quantiser_scale / 2);
     signed(f, rest / 2 * by / 32768)
 }
 
@@ -47,7 +47,7 @@ pub fn quantise_method1_inter(f: i32, w: u8, quantiser_scale: u32) -> i32
     ensures { result ≡ level_by_weight w quantiser_scale f }
 {
     let d = u32::from(w) * quantiser_scale;
-    let rest = (16 * f.unsigned_abs()).saturating_sub(d);
+    let rest = (16 * basis::magnitude(f)).saturating_sub(d);
     quotient(f, rest, 2 * d).clamp(-2047, 2047)
 }
 
@@ -68,7 +68,7 @@ pub fn inverse_quant_method2_coef(level: i32, quantiser_scale: u32) -> i32
     requires { (nat_abs level ≤ 2047) × (1 ≤ quantiser_scale) × (quantiser_scale ≤ 31) }
     ensures { result ≡ inverse_by_quantiser quantiser_scale level }
 {
-    let l = level.unsigned_abs();
+    let l = basis::magnitude(level);
     if l == 0 {
         return 0;
     }

@@ -18,10 +18,15 @@ fn is_quantiser(quantiser: u32) -> bool
     (1..=31).contains(&quantiser)
 }
 
+// To the end, whatever is found: a loop without an exit is done on many weights at once.
 fn no_zero(weights: &[u8]) -> bool
     ensures { result ≡ no_zero weights.now }
 {
-    weights.iter().all(|w| *w != 0)
+    let mut good = true;
+    for w in weights {
+        good &= *w != 0;
+    }
+    good
 }
 
 // What turns quantiser and weights back: 10, 11.

@@ -16,5 +16,5 @@ returns-then-max-tall c =
     let row = c.args.row in
     let far = leb→le c.max-then-max-tall.result row.outer t in
     let last = subst (λ (v : MotionVector). distance v ≤ row.outer) c.right-last.ensures (omega arith) in
-    let tall : nat_abs row.from.y ≡ c.unsigned_abs-tall.result = grind arith in
+    let tall : nat_abs row.from.y ≡ c.magnitude-tall.result = grind arith in
     listed_whole row (omega arith) (omega arith) (λ z. omega arith) (omega arith) last

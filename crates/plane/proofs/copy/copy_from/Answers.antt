@@ -4,7 +4,6 @@ use native.Mathlib.Omega.{arith}
 use mathlib.Core.Path.{refl, sym, ◌∙◌}
 use lib.IntN.{pos}
 use lib.ListN.{length, get_or, take, drop, length-take, length-drop}
-use Rattle.basis.proofs.Lists.{tabulate_const}
 use Rattle.basis.proofs.Slices.{put_two}
 use Rattle.plane.proofs.Rows.{straight, past_last}
 use Rattle.plane.proofs.copy.copy_from.Goals as goal
@@ -21,5 +20,5 @@ returns c =
     let m = length row - s.at in
     put_two s.out.now (take m (drop s.at row)) _ _ m (λ _. get_or row (length row - 1) 0)
     c.copy_straight-2.ensures
-    (simp (length-take, length-drop) (omega arith)) (c.fill.ensures.after (λ y e. e) ∙ sym (tabulate_const _ _))
+    (simp (length-take, length-drop) (omega arith)) c.fill.ensures
     ∙ past_last row s.at m (length s.out.now) (omega arith) (omega arith)

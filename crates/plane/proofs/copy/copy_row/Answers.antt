@@ -8,7 +8,7 @@ use lib.ListN.{length, get_or, length-take}
 use Rattle.std.proofs.lemmas.Int.{ints, clamps}
 use Rattle.basis.specs.Lists.{tabulate}
 use Rattle.basis.specs.Parts.{above, below}
-use Rattle.basis.proofs.Lists.{length-tabulate, tabulate_const}
+use Rattle.basis.proofs.Lists.{length-tabulate}
 use Rattle.basis.proofs.Slices.{put_two}
 use Rattle.basis.proofs.Parts.{sides}
 use Rattle.plane.specs.ToldHeld.{clamped_in}
@@ -32,7 +32,7 @@ returns c =
     let b = c.min-left.result in
     let a = c.min-at.result in
     put_two out (tabulate b (λ _. get_or row 0 0)) _ _ b (clamped_in row (pos a))
-    (c.fill.ensures.after (λ y e. e) ∙ sym (tabulate_const _ _) ∙ ap (λ (n : ℕ). tabulate n (λ _. get_or row 0 0)) (simp length-take (omega arith)))
+    (c.fill.ensures ∙ ap (λ (n : ℕ). tabulate n (λ _. get_or row 0 0)) (simp length-take (omega arith)))
     (length-tabulate _ _) c.copy_from.ensures
     ∙ before_first row x (length out) b a
     (omega (arith, ints, clamps, above_up x, below_down x, sides x, c.min.ensures.value, c.unsigned_abs.ensures.value, c.min-left.ensures))
